@@ -1,0 +1,7 @@
+-- Laws: reading and writing, what code reads of a file, and that a file is its picture's.
+pub mod BytesLaws
+pub mod FileLaws
+pub mod Access
+pub mod WholeLaws
+-- Theorems: demand 3 over the calls.
+pub mod Promise

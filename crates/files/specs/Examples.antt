@@ -1,0 +1,200 @@
+-- P1 to P11 of document 01: one table of cases, one test that the checker computes, one statement. Each case goes through the
+-- definition that a public call's contract cites. Leans on Answers.
+use Prim.Native.Nat.{ℕ, _+_}
+use mathlib.Core.Bool.{Bool, true, false, cond, _&&_}
+use mathlib.Core.List.{List, [], _∷_, _++_}
+use lib.Dec.{T, eqb}
+use lib.ListN.{length}
+use Rattle.files.specs.Bytes.{num2}
+use Rattle.files.specs.Answers.{Answer, refused, said, wrote, condense, check, askRegister, askSummary, list}
+
+-- ---- registers
+
+-- "Register A: items 0, 1, 2 are hoists (marks 1), 3 and 4 passed hooks (6), 5 a failed hook (10); .. Links by label 0: 0 to 3, 1 to 4, 2 to 5."
+A : List ℕ
+A =
+    0 ∷ 6 ∷ 0 ∷ 3 ∷ 0 ∷ 12 ∷ 0 ∷ 36 ∷ 0 ∷ 54 ∷ 0 ∷ 0 ∷
+    0 ∷ 0 ∷ 0 ∷ 1 ∷ 0 ∷ 0 ∷ 0 ∷ 1 ∷ 0 ∷ 0 ∷ 0 ∷ 1 ∷ 0 ∷ 0 ∷ 0 ∷ 6 ∷ 0 ∷ 0 ∷ 0 ∷ 6 ∷ 0 ∷ 0 ∷ 0 ∷ 10 ∷
+    0 ∷ 0 ∷ 0 ∷ 0 ∷ 0 ∷ 3 ∷
+    0 ∷ 1 ∷ 0 ∷ 0 ∷ 0 ∷ 4 ∷
+    0 ∷ 2 ∷ 0 ∷ 0 ∷ 0 ∷ 5 ∷ []
+
+-- the summary of A for 1, 1, 1, as document 01 lists it: header, classes, rows, class links (edges), map
+S1 : List ℕ
+S1 =
+    0 ∷ 1 ∷ 0 ∷ 1 ∷ 0 ∷ 1 ∷ 0 ∷ 4 ∷ 0 ∷ 3 ∷ 0 ∷ 4 ∷ 0 ∷ 2 ∷ 0 ∷ 6 ∷ 0 ∷ 24 ∷ 0 ∷ 56 ∷ 0 ∷ 88 ∷ 0 ∷ 100 ∷
+    0 ∷ 0 ∷ 0 ∷ 1 ∷ 0 ∷ 0 ∷ 0 ∷ 2 ∷
+    0 ∷ 0 ∷ 0 ∷ 1 ∷ 0 ∷ 0 ∷ 0 ∷ 1 ∷
+    0 ∷ 0 ∷ 0 ∷ 6 ∷ 0 ∷ 1 ∷ 0 ∷ 2 ∷
+    0 ∷ 0 ∷ 0 ∷ 10 ∷ 0 ∷ 2 ∷ 0 ∷ 1 ∷
+    0 ∷ 0 ∷ 0 ∷ 0 ∷ 0 ∷ 1 ∷ 0 ∷ 1 ∷
+    0 ∷ 1 ∷ 0 ∷ 0 ∷ 0 ∷ 2 ∷ 0 ∷ 1 ∷
+    0 ∷ 2 ∷ 0 ∷ 16 ∷ 0 ∷ 0 ∷ 0 ∷ 1 ∷
+    0 ∷ 3 ∷ 0 ∷ 16 ∷ 0 ∷ 0 ∷ 0 ∷ 1 ∷
+    0 ∷ 0 ∷ 0 ∷ 0 ∷ 0 ∷ 2 ∷
+    0 ∷ 1 ∷ 0 ∷ 0 ∷ 0 ∷ 3 ∷
+    0 ∷ 0 ∷ 0 ∷ 0 ∷ 0 ∷ 1 ∷ 0 ∷ 2 ∷ 0 ∷ 2 ∷ 0 ∷ 3 ∷ []
+
+-- "a chain of four unmarked items, links 0 to 1 to 2 to 3, label 0"
+chain : List ℕ
+chain =
+    0 ∷ 4 ∷ 0 ∷ 3 ∷ 0 ∷ 12 ∷ 0 ∷ 28 ∷ 0 ∷ 46 ∷ 0 ∷ 0 ∷
+    0 ∷ 0 ∷ 0 ∷ 0 ∷ 0 ∷ 0 ∷ 0 ∷ 0 ∷ 0 ∷ 0 ∷ 0 ∷ 0 ∷ 0 ∷ 0 ∷ 0 ∷ 0 ∷
+    0 ∷ 0 ∷ 0 ∷ 0 ∷ 0 ∷ 1 ∷
+    0 ∷ 1 ∷ 0 ∷ 0 ∷ 0 ∷ 2 ∷
+    0 ∷ 2 ∷ 0 ∷ 0 ∷ 0 ∷ 3 ∷ []
+
+-- "a hoist with three passed hooks, links out by 0"
+three : List ℕ
+three =
+    0 ∷ 4 ∷ 0 ∷ 3 ∷ 0 ∷ 12 ∷ 0 ∷ 28 ∷ 0 ∷ 46 ∷ 0 ∷ 0 ∷
+    0 ∷ 0 ∷ 0 ∷ 1 ∷ 0 ∷ 0 ∷ 0 ∷ 6 ∷ 0 ∷ 0 ∷ 0 ∷ 6 ∷ 0 ∷ 0 ∷ 0 ∷ 6 ∷
+    0 ∷ 0 ∷ 0 ∷ 0 ∷ 0 ∷ 1 ∷
+    0 ∷ 0 ∷ 0 ∷ 0 ∷ 0 ∷ 2 ∷
+    0 ∷ 0 ∷ 0 ∷ 0 ∷ 0 ∷ 3 ∷ []
+
+-- "a hoist with one passed and one failed hook, links out by 0"
+pair : List ℕ
+pair =
+    0 ∷ 3 ∷ 0 ∷ 2 ∷ 0 ∷ 12 ∷ 0 ∷ 24 ∷ 0 ∷ 36 ∷ 0 ∷ 0 ∷
+    0 ∷ 0 ∷ 0 ∷ 1 ∷ 0 ∷ 0 ∷ 0 ∷ 6 ∷ 0 ∷ 0 ∷ 0 ∷ 10 ∷
+    0 ∷ 0 ∷ 0 ∷ 0 ∷ 0 ∷ 1 ∷
+    0 ∷ 0 ∷ 0 ∷ 0 ∷ 0 ∷ 2 ∷ []
+
+empty : List ℕ
+empty = 0 ∷ 0 ∷ 0 ∷ 0 ∷ 0 ∷ 12 ∷ 0 ∷ 12 ∷ 0 ∷ 12 ∷ 0 ∷ 0 ∷ []
+
+-- ---- questions, entry by entry
+
+entry : ℕ → ℕ → List ℕ
+entry a v = a ∷ v ∷ 0 ∷ 0 ∷ []
+
+-- the literal whose second byte is v (252 is −4, 224 is −32, 223 is −33); "at least t out by 0" and "at least t in by 0"; true
+literal : ℕ → List ℕ
+literal v = entry 1 v
+
+out : ℕ → List ℕ
+out t = entry 16 t
+
+incoming : ℕ → List ℕ
+incoming t = entry 32 t
+
+truth : List ℕ
+truth = entry 0 0
+
+-- ---- answers
+
+same : List ℕ → List ℕ → Bool
+same [] [] = true
+same [] (y ∷ ys) = false
+same (x ∷ xs) [] = false
+same (x ∷ xs) (y ∷ ys) = eqb x y && same xs ys
+
+equal : Answer → Answer → Bool
+equal (refused j) (refused k) = eqb j k
+equal (refused j) (said t) = false
+equal (refused j) (wrote q) = false
+equal (said true) (said t) = t
+equal (said false) (said t) = cond t false true
+equal (said t) (refused k) = false
+equal (said t) (wrote q) = false
+equal (wrote p) (refused k) = false
+equal (wrote p) (said t) = false
+equal (wrote p) (wrote q) = same p q
+
+bytes : Answer → List ℕ
+bytes (refused k) = []
+bytes (said t) = []
+bytes (wrote p) = p
+
+-- how many classes and groups a summary at level i has, for µ = 1
+counts : ℕ → List ℕ → Answer
+counts i b = let s = bytes (condense i 1 1 b 9999) in wrote (num2 s 6 ∷ num2 s 8 ∷ [])
+
+-- a question at item 0 of a summary at level 1; and the count of that summary's first row
+asked : ℕ → List ℕ → List ℕ → Answer
+asked µ b q = let s = bytes (condense 1 µ 1 b 9999) in askSummary s q 0
+
+firstRow : ℕ → List ℕ → Answer
+firstRow µ b = let s = bytes (condense 1 µ 1 b 9999) in wrote (num2 s (num2 s 18 + 6) ∷ [])
+
+-- ---- the table
+
+-- P number, what the definitions answer, what document 01 says
+pub record Case : Type 0 where
+  pub P : ℕ
+  pub got : Answer
+  pub want : Answer
+
+pub table : List Case
+table =
+    -- P1: "that summary; the file has 112 bytes": there is room in 112 bytes and not in 111; and it is an abstraction of A
+    record { P = 1; got = condense 1 1 1 A 112; want = wrote S1 } ∷
+    record { P = 1; got = wrote (length S1 ∷ []); want = wrote (112 ∷ []) } ∷
+    record { P = 1; got = condense 1 1 1 A 111; want = refused 9 } ∷
+    record { P = 1; got = check A S1; want = said true } ∷
+    -- P2: "'at least 1 out by 0 is failed' (16 1 0 0, 1 4 0 0) lists 2 only"; and so says A itself
+    record { P = 2; got = list S1 (out 1 ++ literal 4) 100; want = wrote (0 ∷ 2 ∷ []) } ∷
+    record { P = 2; got = askRegister A (out 1 ++ literal 4) 1; want = said false } ∷
+    record { P = 2; got = askRegister A (out 1 ++ literal 4) 2; want = said true } ∷
+    -- P3: "literal −4 lists 0 to 4, literal 3 lists 3 and 4: lacking 'failed' is not having 'passed'"
+    record { P = 3; got = list S1 (literal 252) 100; want = wrote (0 ∷ 0 ∷ 0 ∷ 1 ∷ 0 ∷ 2 ∷ 0 ∷ 3 ∷ 0 ∷ 4 ∷ []) } ∷
+    record { P = 3; got = list S1 (literal 3) 100; want = wrote (0 ∷ 3 ∷ 0 ∷ 4 ∷ []) } ∷
+    record { P = 3; got = askRegister A (literal 252) 0; want = said true } ∷
+    record { P = 3; got = askRegister A (literal 252) 5; want = said false } ∷
+    record { P = 3; got = askRegister A (literal 3) 0; want = said false } ∷
+    record { P = 3; got = askRegister A (literal 3) 4; want = said true } ∷
+    -- P4: "'at least 1 in by 0 is a hoist' lists 3, 4, 5"
+    record { P = 4; got = list S1 (incoming 1 ++ literal 1) 100; want = wrote (0 ∷ 3 ∷ 0 ∷ 4 ∷ 0 ∷ 5 ∷ []) } ∷
+    record { P = 4; got = askRegister A (incoming 1 ++ literal 1) 0; want = said false } ∷
+    record { P = 4; got = askRegister A (incoming 1 ++ literal 1) 5; want = said true } ∷
+    -- P5: "'at least 2 out by 0, true' lists nothing, length 0; threshold 3 is refused 7"
+    record { P = 5; got = list S1 (out 2 ++ truth) 100; want = wrote [] } ∷
+    record { P = 5; got = list S1 (out 2 ++ truth) 0; want = wrote [] } ∷
+    record { P = 5; got = list S1 (out 3 ++ truth) 100; want = refused 7 } ∷
+    -- P6: "one at-least inside another on A's summary: 7; on A itself answered"
+    record { P = 6; got = askSummary S1 (out 1 ++ incoming 1 ++ truth) 0; want = refused 7 } ∷
+    record { P = 6; got = list S1 (out 1 ++ incoming 1 ++ truth) 100; want = refused 7 } ∷
+    record { P = 6; got = askRegister A (out 1 ++ incoming 1 ++ truth) 0; want = said true } ∷
+    record { P = 6; got = askRegister A (out 1 ++ incoming 1 ++ truth) 3; want = said false } ∷
+    -- P7: "literals 0, 33, −33 and byte 128: 5; 32 and −32 accepted", on a summary and on a register
+    record { P = 7; got = askSummary S1 (literal 0) 0; want = refused 5 } ∷
+    record { P = 7; got = askSummary S1 (literal 33) 0; want = refused 5 } ∷
+    record { P = 7; got = askSummary S1 (literal 223) 0; want = refused 5 } ∷
+    record { P = 7; got = askSummary S1 (literal 128) 0; want = refused 5 } ∷
+    record { P = 7; got = askSummary S1 (literal 32) 0; want = said false } ∷
+    record { P = 7; got = askSummary S1 (literal 224) 0; want = said true } ∷
+    record { P = 7; got = askRegister A (literal 0) 0; want = refused 5 } ∷
+    record { P = 7; got = askRegister A (literal 33) 0; want = refused 5 } ∷
+    record { P = 7; got = askRegister A (literal 223) 0; want = refused 5 } ∷
+    record { P = 7; got = askRegister A (literal 128) 0; want = refused 5 } ∷
+    record { P = 7; got = askRegister A (literal 32) 0; want = said false } ∷
+    record { P = 7; got = askRegister A (literal 224) 0; want = said true } ∷
+    -- P8: "level 1 has 3 classes and 1 group, level 2 has 4 and 3"
+    record { P = 8; got = counts 1 chain; want = wrote (3 ∷ 1 ∷ []) } ∷
+    record { P = 8; got = counts 2 chain; want = wrote (4 ∷ 3 ∷ []) } ∷
+    -- P9: "the hoist's row says 2, and 'at least 2 out by 0, true' holds at it; µ = 2: 3"
+    record { P = 9; got = firstRow 1 three; want = wrote (2 ∷ []) } ∷
+    record { P = 9; got = asked 1 three (out 2 ++ truth); want = said true } ∷
+    record { P = 9; got = firstRow 2 three; want = wrote (3 ∷ []) } ∷
+    -- P10: "'at least 2 out by 0, true' holds at the hoist, as 1 + 1"
+    record { P = 10; got = firstRow 1 pair; want = wrote (1 ∷ []) } ∷
+    record { P = 10; got = asked 1 pair (out 2 ++ truth); want = said true } ∷
+    -- P11: "the empty register gives 24 bytes, all offsets 24"
+    record { P = 11; got = condense 1 1 1 empty 24; want = wrote (0 ∷ 1 ∷ 0 ∷ 1 ∷ 0 ∷ 1 ∷ 0 ∷ 0 ∷ 0 ∷ 0 ∷ 0 ∷ 0 ∷ 0 ∷ 0 ∷ 0 ∷ 0 ∷ 0 ∷ 24 ∷ 0 ∷ 24 ∷ 0 ∷ 24 ∷ 0 ∷ 24 ∷ []) } ∷
+    record { P = 11; got = condense 1 1 1 empty 23; want = refused 9 } ∷
+    []
+
+pub passes : List Case → Bool
+passes [] = true
+passes (c ∷ cs) = equal (c .got) (c .want) && passes cs
+
+-- to unfold this is to unfold every definition that the table computes with
+open-all : ℕ
+unfolding passes table same equal entry literal out incoming truth A S1 chain three pair empty counts asked firstRow bytes Rattle.meaning.specs.Count.sum Rattle.meaning.specs.Count.all Rattle.meaning.specs.Count.those Rattle.meaning.specs.Count.seek Rattle.meaning.specs.Count.tab Rattle.meaning.specs.Count.join Rattle.meaning.specs.Count.total Rattle.meaning.specs.Count.any Rattle.meaning.specs.Count.each Rattle.meaning.specs.Count.ascends Rattle.meaning.specs.Register.marksOf Rattle.meaning.specs.Register.sameWay Rattle.meaning.specs.Register.near Rattle.meaning.specs.Register.far Rattle.meaning.specs.Register.leads Rattle.meaning.specs.Register.neighbours Rattle.meaning.specs.Level.sameCount Rattle.meaning.specs.Level.sameAround Rattle.meaning.specs.Level.alike Rattle.meaning.specs.Level.first Rattle.meaning.specs.Level.lowest Rattle.meaning.specs.Level.number Rattle.meaning.specs.Level.classList Rattle.meaning.specs.Level.classCount Rattle.meaning.specs.Level.lowestItem Rattle.meaning.specs.Question.bit Rattle.meaning.specs.Question.shows Rattle.meaning.specs.Question.holds Rattle.meaning.specs.Question.depth Rattle.meaning.specs.Question.threshold Rattle.meaning.specs.Reading.push Rattle.meaning.specs.Reading.andPush Rattle.meaning.specs.Reading.stack Rattle.meaning.specs.Reading.only Rattle.meaning.specs.Reading.tree Rattle.meaning.specs.Summary.classOf Rattle.meaning.specs.Summary.classAt Rattle.meaning.specs.Summary.groupAt Rattle.meaning.specs.Summary.lowestClass Rattle.meaning.specs.Summary.rowFor Rattle.meaning.specs.Summary.counted Rattle.meaning.specs.Summary.stated Rattle.meaning.specs.Summary.joins Rattle.meaning.specs.Summary.holdsAt Rattle.meaning.specs.Summary.list Rattle.meaning.specs.Condense.rowUnless Rattle.meaning.specs.Condense.rowsThat Rattle.meaning.specs.Condense.classFor Rattle.meaning.specs.Condense.linksFrom Rattle.meaning.specs.Condense.summaryBy Rattle.meaning.specs.Condense.summaryOf Rattle.meaning.specs.WellFormed.within Rattle.meaning.specs.WellFormed.linkKey Rattle.meaning.specs.WellFormed.way Rattle.meaning.specs.WellFormed.rowKey Rattle.meaning.specs.WellFormed.linkIn Rattle.meaning.specs.WellFormed.inRange Rattle.meaning.specs.WellFormed.classIn Rattle.meaning.specs.WellFormed.rowIn Rattle.meaning.specs.WellFormed.hasRow Rattle.meaning.specs.WellFormed.hasLink Rattle.meaning.specs.WellFormed.rowsMatch Rattle.meaning.specs.WellFormed.sizes Rattle.meaning.specs.WellFormed.numbers Rattle.meaning.specs.WellFormed.order Rattle.meaning.specs.WellFormed.groupsUsed Rattle.meaning.specs.WellFormed.wellFormed Rattle.meaning.specs.Check.rowRight Rattle.meaning.specs.Check.imageStands Rattle.meaning.specs.Check.isImage Rattle.meaning.specs.Check.fits Rattle.files.specs.Bytes.num2 Rattle.files.specs.Bytes.num4 Rattle.files.specs.Bytes.put2 Rattle.files.specs.Bytes.put4 Rattle.files.specs.Bytes.pack Rattle.files.specs.RegisterFile.linkAt Rattle.files.specs.RegisterFile.putLink Rattle.files.specs.RegisterFile.registerIn Rattle.files.specs.RegisterFile.headed Rattle.files.specs.RegisterFile.linksFine Rattle.files.specs.RegisterFile.fault Rattle.files.specs.SummaryFile.classIs Rattle.files.specs.SummaryFile.putClass Rattle.files.specs.SummaryFile.wayFrom Rattle.files.specs.SummaryFile.labelFrom Rattle.files.specs.SummaryFile.rowIs Rattle.files.specs.SummaryFile.putRow Rattle.files.specs.SummaryFile.summaryIn Rattle.files.specs.SummaryFile.summaryHead Rattle.files.specs.SummaryFile.summaryBytes Rattle.files.specs.SummaryFile.exact Rattle.files.specs.SummaryFile.wellFormedFile Rattle.files.specs.QuestionFile.signed Rattle.files.specs.QuestionFile.when Rattle.files.specs.QuestionFile.kind Rattle.files.specs.QuestionFile.andKind Rattle.files.specs.QuestionFile.kinds Rattle.files.specs.QuestionFile.treeOf Rattle.files.specs.QuestionFile.question Rattle.files.specs.Answers.unless Rattle.files.specs.Answers.into Rattle.files.specs.Answers.condense Rattle.files.specs.Answers.check Rattle.files.specs.Answers.askTree Rattle.files.specs.Answers.askRegister Rattle.files.specs.Answers.beyond Rattle.files.specs.Answers.askIn Rattle.files.specs.Answers.askSummary Rattle.files.specs.Answers.listIn Rattle.files.specs.Answers.list
+open-all = 0
+
+-- every case of the table is answered as document 01 says
+pub examples : T (passes table)
+unfolding open-all
+examples = tt
