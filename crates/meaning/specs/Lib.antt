@@ -10,3 +10,5 @@ pub mod Condense
 pub mod WellFormed
 pub mod Check
 pub mod Decided
+-- Small registers of document 01's Examples on their pictures, computed: what breaks first where a definition is bent.
+pub mod Samples
