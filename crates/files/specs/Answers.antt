@@ -1,11 +1,12 @@
 -- What each call answers: one definition of the whole answer, refusals in their order, and what a lent buffer holds afterwards.
 -- Leans on the three files, and on meaning for the summary, the check and where a question holds.
 use Prim.Native.Nat.{ℕ, zero, suc, _+_}
-use mathlib.Core.Bool.{Bool, cond, _||_}
+use mathlib.Core.Bool.{Bool, true, false, cond, _||_}
 use mathlib.Core.List.{List, _++_}
 use mathlib.Core.Option.{Option, none, some}
 use lib.ListN.{length, drop}
 use lib.Dec.{leb, ltb}
+use lib.IntN.{ℤ, pos, negsuc}
 use Rattle.meaning.specs.Register.{items}
 use Rattle.meaning.specs.Question.{Question, depth, threshold, holds}
 use Rattle.meaning.specs.Summary.{Summary, classAt, holdsAt}
@@ -23,6 +24,25 @@ pub data Answer : Type 0 where
   refused : ℕ → Answer
   said : Bool → Answer
   wrote : List ℕ → Answer
+
+-- what is handed back of it: the number, yes or no, or the length written
+pub data Returned : Type 0 where
+  number : ℕ → Returned
+  word : Bool → Returned
+  size : ℕ → Returned
+
+unfoldable pub returned : Answer → Returned
+returned (refused k) = number k
+returned (said t) = word t
+returned (wrote p) = size (length p)
+
+-- the same as one signed number, for callers in other languages: minus the number, 1 for yes and 0 for no, or the length
+unfoldable pub code : Returned → ℤ
+code (number zero) = pos 0
+code (number (suc k)) = negsuc k
+code (word true) = pos 1
+code (word false) = pos 0
+code (size n) = pos n
 
 -- what a lent buffer holds afterwards: "no lent byte changes" by a refusal, "bytes past that length stay" on a success
 unfoldable pub left : Answer → List ℕ → List ℕ

@@ -3,11 +3,11 @@ use mathlib.Core.Path.{_≡_, refl, ap, _∙_}
 use mathlib.Core.List.{List, [], _∷_, _++_, append-assoc}
 use Prim.Native.Nat.{ℕ, zero, suc, _+_, _*_, _/_, _%_, _<_}
 use native.Mathlib.Omega.{arith}
-use lib.ListN.{length, length-append}
+use lib.ListN.{getD, length, length-append}
 use lib.Seq.{getD-append-add}
 use Rattle.meaning.specs.Count.{tab, Every}
 use Rattle.theory.proofs.CountLaws.{tab-same}
-use Rattle.files.specs.Bytes.{num2, num4, put2, put4, pack}
+use Rattle.files.specs.Bytes.{Bytes, num2, num4, put2, put4, pack}
 
 pub two-back : (v : ℕ) → v < 65536 → v / 256 % 256 * 256 + v % 256 ≡ v
 two-back v h = omega arith
@@ -68,3 +68,10 @@ module _ {A : Type 0} (w : ℕ) (put : A → List ℕ) (take : List ℕ → ℕ 
   unpacked p s t base e h =
       tab-same _ _ (length s) (λ k u. ap (λ (z : ℕ). take (p ++ (pack put s ++ t)) (z + w * k)) e ∙ shift p (pack put s ++ t) (w * k))
       ∙ unpack s t h
+
+-- every number that is read in a list of bytes is a byte: past the end it is 0
+pub byte-at : (b : List ℕ) → Bytes b → (i : ℕ) → getD b i 0 < 256
+unfolding Every
+byte-at [] h i = omega arith
+byte-at (v ∷ b) h zero = h .0
+byte-at (v ∷ b) h (suc i) = byte-at b (h .1) i

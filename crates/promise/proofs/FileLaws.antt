@@ -1,21 +1,24 @@
 -- A picture that fits its file is read back from it.
 use mathlib.Core.Path.{_≡_, refl, sym, ap, _∙_}
-use mathlib.Core.Bool.{true}
+use mathlib.Core.Bool.{true, _&&_}
 use mathlib.Core.List.{List, [], _++_, append-assoc}
 use Prim.Native.Nat.{ℕ, _+_, _*_, _<_, _≤_}
 use native.Mathlib.Omega.{arith}
 use borrow.Author.Tests.{le-leb, eq-eqb, lt-ltb, le-ltb}
+use lib.Dec.{leb}
 use lib.ListN.{length, length-append}
-use Rattle.meaning.specs.Count.{tab, Every}
-use Rattle.theory.proofs.CountLaws.{and-yes}
-use Rattle.meaning.specs.Register.{Link, Register, items}
+use Rattle.meaning.specs.Count.{tab, each, ascends, Every}
+use Rattle.theory.proofs.CountLaws.{and-inv, and-yes, every-map}
+use Rattle.meaning.specs.Register.{Link, Register, items, LinkFine, Fine}
 use Rattle.meaning.specs.declared.Direction.{Direction}
 use Rattle.meaning.specs.declared.Direction.the-variants.{Outgoing, Incoming}
 use Rattle.meaning.specs.Summary.{Class, Row, Summary}
-use Rattle.meaning.specs.WellFormed.{way}
+use Rattle.meaning.specs.WellFormed.{way, linkIn, linkKey, accepted}
+use Rattle.theory.proofs.ShapeLaws.{accepted-fine}
+use Rattle.theory.proofs.WellMade.{limits}
 use Rattle.files.specs.Bytes.{num2, num4, put2, put4, pack}
 use Rattle.promise.proofs.BytesLaws.{two-back, num2-put2, num4-put4, num2-shift, num4-shift, length-pack, unpacked}
-use Rattle.files.specs.RegisterFile.{linkAt, putLink, registerIn, registerHead, registerBytes}
+use Rattle.files.specs.RegisterFile.{linksOffset, registerSize, linkAt, putLink, registerIn, registerHead, registerBytes, headed, linksFine, fault}
 use Rattle.files.specs.SummaryFile.{classIs, putClass, wayFrom, labelFrom, rowIs, putRow, summaryIn, summaryHead, summaryBytes, exact}
 
 -- ---- one record
@@ -146,9 +149,79 @@ module _ (R : Register) (h : RegisterSmall R) where
       ap (λ (s : List ℕ). tab (λ k. linkAt s (12 + 4 * items R + 6 * k)) (length (R .links))) e
       ∙ unpacked 6 putLink linkAt LinkSmall link-size link-shift link-back (p ++ pack put4 (R .marks)) (R .links) [] (12 + 4 * items R) (omega (arith, head-size)) (h .links-fit)
 
+  r-length : length b ≡ registerSize (items R) (length (R .links))
+  unfolding registerBytes
+  r-length =
+      let H = registerHead (items R) (length (R .links)) in
+      let M = pack put4 (R .marks) in
+      let L = pack putLink (R .links) in
+      let m = length-pack 4 put4 num4 (λ v. v < 4294967296) put4-size num4-shift num4-put4 (R .marks) in
+      let l = length-pack 6 putLink linkAt LinkSmall link-size link-shift link-back (R .links) in
+      omega (arith, length-append H (M ++ (L ++ [])), length-append M (L ++ []), length-append L [], head-size, m, l)
+
   pub register-back : registerIn (registerBytes R) ≡ R
   unfolding registerIn
   register-back = rw (r-items, r-links) (λ i. record { marks = r-marks-back i; links = r-links-back i })
+
+  module _ (few : items R ≤ 1024) (few-links : length (R .links) ≤ 2048) where
+    field-marks : num2 b 4 ≡ 12
+    unfolding registerBytes registerHead put2 num2
+    field-marks = refl
+
+    field-links : num2 b 6 ≡ linksOffset (items R)
+    unfolding registerBytes registerHead put2 num2
+    field-links = two-back (linksOffset (items R)) (omega arith)
+
+    field-total : num2 b 8 ≡ registerSize (items R) (length (R .links))
+    unfolding registerBytes registerHead put2 num2
+    field-total = two-back (registerSize (items R) (length (R .links))) (omega arith)
+
+    field-zero : num2 b 10 ≡ 0
+    unfolding registerBytes registerHead put2 num2
+    field-zero = refl
+
+    pub register-headed : headed b ≡ true
+    unfolding headed
+    register-headed =
+        rw (r-items, r-links, field-marks, field-links, field-total, field-zero, r-length)
+        (and-yes (and-yes (and-yes (eq-eqb (linksOffset (items R)) _ refl) (eq-eqb (registerSize (items R) (length (R .links))) _ refl)) refl)
+        (eq-eqb (registerSize (items R) (length (R .links))) _ refl))
+
+-- what "accepted" gives of a picture whose marks fit four bytes
+pub accepted-small : (R : Register) → accepted R ≡ true → Every (λ v. v < 4294967296) (R .marks) → RegisterSmall R
+unfolding Fine
+accepted-small R a marks =
+    let h = limits R a in
+    record {
+      items-small = omega (arith, h .0);
+      links-small = omega (arith, h .1);
+      marks-fit = marks;
+      links-fit = every-map (LinkFine R) LinkSmall (R .links) (λ k u. (omega (arith, u .0), omega (arith, u .1), omega (arith, u .2))) (accepted-fine R a);
+    }
+
+accepted-links : (R : Register) → accepted R ≡ true → linksFine R ≡ true
+unfolding accepted linksFine
+accepted-links R e =
+    let f = and-inv (leb (items R) 1024 && leb (length (R .links)) 2048 && each (linkIn (items R)) (R .links)) (ascends linkKey (R .links)) e in
+    and-yes (and-inv (leb (items R) 1024 && leb (length (R .links)) 2048) (each (linkIn (items R)) (R .links)) (f .0) .1) (f .1)
+
+-- the file of an accepted picture is an accepted file
+pub register-accepted : (R : Register) → accepted R ≡ true → Every (λ v. v < 4294967296) (R .marks) → fault (registerBytes R) ≡ 0
+unfolding fault
+register-accepted R a marks =
+    let h = accepted-small R a marks in
+    let k = limits R a in
+    let b = registerBytes R in
+    rw (
+      le-ltb (length b) 12 (omega (arith, r-length R h)),
+      r-items R h,
+      r-links R h,
+      le-leb (items R) 1024 (k .0),
+      le-leb (length (R .links)) 2048 (k .1),
+      register-headed R h (k .0) (k .1),
+      register-back R h,
+      accepted-links R a,
+    )
 
 -- ---- the summary file
 

@@ -3,5 +3,6 @@ pub mod BytesLaws
 pub mod FileLaws
 pub mod Access
 pub mod WholeLaws
--- Theorems: demand 3 over the calls.
+-- Theorems: demand 3 over the calls; one answer only for each call.
 pub mod Promise
+pub mod OneAnswer

@@ -25,16 +25,14 @@ use Rattle.theory.proofs.ShapeLaws.{accepted-fine, link-in, well-parts, number-
 use Rattle.theory.proofs.WellMade.{limits, level-least, summary-well-formed, groups-most, marks-from}
 use Rattle.theory.proofs.Demand.{demand-3, summary-abstraction, summary-answers}
 use Rattle.theory.proofs.CheckLaws.{check-exact}
-use Rattle.files.specs.Bytes.{num2, num4, put2, pack}
+use Rattle.files.specs.Bytes.{Bytes, num2, num4, put2, pack}
+use Rattle.promise.proofs.BytesLaws.{byte-at}
 use Rattle.files.specs.RegisterFile.{linkAt, registerIn, linksFine, fault}
 use Rattle.promise.proofs.Access.{fault-none}
 use Rattle.files.specs.SummaryFile.{summaryIn, summaryBytes, wellFormedFile}
 use Rattle.promise.proofs.FileLaws.{ClassSmall, RowSmall, SummarySmall, summary-back, summary-exact}
 use Rattle.files.specs.Answers.{Answer, refused, said, wrote, unless, into, condense, check, askTree, askRegister, beyond, askIn, askSummary, listIn, list}
 use Rattle.files.specs.QuestionFile.{when, kind, andKind, kinds, treeOf, question}
-
-abbrev pub Bytes : List ℕ → Type 0
-Bytes b = Every (λ v. v < 256) b
 
 -- ---- an accepted file holds an accepted register
 
@@ -49,12 +47,6 @@ fault-accepted b e =
     let u : leb (items R) 1024 ≡ true = rw (length-tab (λ x. num4 b (12 + 4 * x)) n) (f .0) in
     let v : leb (length (R .links)) 2048 ≡ true = rw (length-tab (λ k. linkAt b (12 + 4 * n + 6 * k)) m) (f .1) in
     and-yes (and-yes (and-yes u v) (t .0)) (t .1)
-
-byte-at : (b : List ℕ) → Bytes b → (i : ℕ) → getD b i 0 < 256
-unfolding Every
-byte-at [] h i = omega arith
-byte-at (v ∷ b) h zero = h .0
-byte-at (v ∷ b) h (suc i) = byte-at b (h .1) i
 
 mark-fits : (b : List ℕ) → Bytes b → (at : ℕ) → num4 b at < 4294967296
 unfolding num4 num2

@@ -12,16 +12,16 @@ use lib.Seq.{drop-cons, drop-drop, take-add, take-all}
 use Rattle.meaning.specs.Count.{tab}
 use Rattle.theory.proofs.CountLaws.{by-bool, and-inv, length-tab}
 use Rattle.meaning.specs.WellFormed.{way}
-use Rattle.files.specs.Bytes.{num2, num4, put2, put4, pack}
+use Rattle.files.specs.Bytes.{Bytes, num2, num4, put2, put4, pack}
+use Rattle.promise.proofs.BytesLaws.{byte-at}
 use Rattle.files.specs.RegisterFile.{linkAt, putLink, registerIn, registerHead, registerBytes, headed, fault}
 use Rattle.files.specs.SummaryFile.{classIs, putClass, wayFrom, labelFrom, rowIs, putRow, summaryIn, summaryHead, summaryBytes, exact}
 use Rattle.promise.proofs.Access.{fault-none}
 
--- no number stands past the end, and every number is a byte
-abbrev pub ByteList : List ℕ → Type 0
-ByteList b = (i : ℕ) → getD b i 0 < 256
+module _ (b : List ℕ) (all : Bytes b) where
+  bytes : (i : ℕ) → getD b i 0 < 256
+  bytes = byte-at b all
 
-module _ (b : List ℕ) (bytes : ByteList b) where
   -- ---- a number read is written as it stood
 
   two-of : (x y : ℕ) → x < 256 → y < 256 → put2 (x * 256 + y) ≡ x ∷ y ∷ []
