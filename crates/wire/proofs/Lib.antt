@@ -1,0 +1,2 @@
+-- What a write leaves of a lent buffer.
+pub mod Sets
