@@ -1,6 +1,6 @@
 -- Laws of sums, searches and lists. Assumes nothing.
 use mathlib.Core.Path.{_≡_, refl, sym, ap, _∙_}
-use mathlib.Core.Bool.{Bool, true, false, cond, _&&_, _||_, or-true, true≢false, false≢true}
+use mathlib.Core.Bool.{Bool, true, false, cond, _&&_, _||_, or-true, and-true, and-assoc, true≢false, false≢true}
 use mathlib.Core.Logic.{_⊎_, inl, inr, ⊎-elim}
 use mathlib.Core.List.{List, [], _∷_, _++_}
 use Prim.Native.Nat.{ℕ, zero, suc, _+_, _-_, _≤_, _<_}
@@ -105,6 +105,18 @@ all-at p zero i h e = absurd (omega arith)
 all-at p (suc n) i h e =
     let f = and-inv (all p n) (p n) e in
     by-eq i n (λ t. rw t (f .1)) (λ t. all-at p n i (omega arith) (f .0))
+
+pub all-no : (p : ℕ → Bool) (n i : ℕ) → i < n → p i ≡ false → all p n ≡ false
+all-no p n i h e = by-bool (all p n) (λ f. no (all-at p n i h f) e) (λ f. f)
+
+pub all-and : (p q : ℕ → Bool) (n : ℕ) → all p n && all q n ≡ all (λ i. p i && q i) n
+all-and p q n =
+    bool-iff (all p n && all q n) (all (λ i. p i && q i) n)
+    (λ e. let f = and-inv (all p n) (all q n) e in all-yes _ n (λ i h. and-yes (all-at p n i h (f .0)) (all-at q n i h (f .1))))
+    (λ e.
+    and-yes
+    (all-yes p n (λ i h. and-inv (p i) (q i) (all-at (λ i. p i && q i) n i h e) .0))
+    (all-yes q n (λ i h. and-inv (p i) (q i) (all-at (λ i. p i && q i) n i h e) .1)))
 
 pub those-same : (p q : ℕ → Bool) (n : ℕ) → ((i : ℕ) → i < n → p i ≡ q i) → those p n ≡ those q n
 unfolding those
@@ -502,3 +514,47 @@ ascends-rising key (a ∷ b ∷ s) e =
     let f = and-inv (ltb (key a) (key b)) (ascends key (b ∷ s)) e in
     let r = ascends-rising key (b ∷ s) (f .1) in
     (r .0, (omega arith, (ltb-true (key a) (key b) (f .0), r .1 .1)))
+
+-- ---- tests of a list that is made place by place, as a loop makes them
+
+module _ {A : Type 0} where
+  each-append : (p : A → Bool) (s t : List A) → each p (s ++ t) ≡ each p s && each p t
+  unfolding each
+  each-append p [] t = refl
+  each-append p (a ∷ s) t = by-bool (p a) (λ e. rw e (each-append p s t)) (λ e. rw e)
+
+  pub each-tab : (p : A → Bool) (f : ℕ → A) (n : ℕ) → each p (tab f n) ≡ all (λ i. p (f i)) n
+  unfolding each tab all
+  each-tab p f zero = refl
+  each-tab p f (suc n) = each-append p (tab f n) (f n ∷ []) ∙ rw (each-tab p f n, and-true (p (f n)))
+
+-- one past the key before number k, and 0 for the first: the least key that may stand at number k
+unfoldable pub past : (ℕ → ℕ) → ℕ → ℕ
+past key zero = 0
+past key (suc k) = suc (key k)
+
+module _ {A : Type 0} (key : A → ℕ) where
+  leb-past : (a b : ℕ) → leb (suc a) b ≡ ltb a b
+  leb-past a b =
+      bool-iff (leb (suc a) b) (ltb a b)
+      (λ e. lt-ltb a b (omega (arith, leb-true (suc a) b e)))
+      (λ e. le-leb (suc a) b (omega (arith, ltb-true a b e)))
+
+  and-three : (s t u : Bool) → t ≡ u → s && t ≡ s && u
+  and-three s t u e = rw e
+
+  ascends-last : (s : List A) (b a : A) → ascends key ((s ++ (b ∷ [])) ++ (a ∷ [])) ≡ ascends key (s ++ (b ∷ [])) && ltb (key b) (key a)
+  unfolding ascends
+  ascends-last [] b a = and-true (ltb (key b) (key a))
+  ascends-last (c ∷ []) b a = rw (and-true (ltb (key b) (key a)), and-true (ltb (key c) (key b)))
+  ascends-last (c ∷ d ∷ s) b a =
+      and-three (ltb (key c) (key d)) _ _ (ascends-last (d ∷ s) b a)
+      ∙ sym (and-assoc (ltb (key c) (key d)) (ascends key ((d ∷ s) ++ (b ∷ []))) (ltb (key b) (key a)))
+
+  pub ascends-tab : (f : ℕ → A) (n : ℕ) → ascends key (tab f n) ≡ all (λ k. leb (past (λ i. key (f i)) k) (key (f k))) n
+  unfolding ascends tab all past
+  ascends-tab f zero = refl
+  ascends-tab f (suc zero) = sym (le-leb 0 (key (f 0)) (omega arith))
+  ascends-tab f (suc (suc n)) =
+      ascends-last (tab f n) (f n) (f (suc n))
+      ∙ rw (ascends-tab f (suc n), leb-past (key (f n)) (key (f (suc n))))
