@@ -1,0 +1,166 @@
+// The register file: judged, with document 01's numbers 1, 2 and 3 in their order, and read through accessors that speak of its
+// picture and hand out an Item where the file has an item number. Leans on wire for the bytes.
+use files::Refusal;
+use names::Item;
+ghost use mathlib.Core.Path.{_≡_};
+ghost use Prim.Native.Nat.{_+_, _*_, _≤_, _<_};
+ghost use mathlib.Core.Bool.{_&&_};
+ghost use lib.Dec.{leb};
+ghost use lib.ListN.{length};
+ghost use Rattle.meaning.specs.Register.{items, marksOf, linkOf};
+ghost use Rattle.meaning.specs.WellFormed.{linkIn, linkKey};
+ghost use Rattle.files.specs.Bytes.{num2};
+ghost use Rattle.files.specs.RegisterFile.{linksOffset, registerSize, linkAt, registerIn, headed, linksFine, fault, verdict};
+ghost use Rattle.register.specs.Told.{told, OfLink};
+
+// "Limits: n ≤ 1,024, m ≤ 2,048, labels 0 to 15."
+const MOST_ITEMS: usize = 1024;
+
+const MOST_LINKS: usize = 2048;
+
+const LABELS: u16 = 16;
+
+// The register's item count and link count, or the first thing wrong with it.
+pub enum Judged {
+    Accepted { items: usize, links: usize },
+    Refused(Refusal),
+}
+
+// "Register checks: under 12 bytes (1), then 2, then the rest of 1, then 3."
+pub fn judge(reg: &[u8]) -> Judged
+    ensures { λ r. ⌜ told r ≡ verdict (now (reg .entry)) ⌝ }
+{
+    if reg.len() < 12 {
+        return Judged::Refused(Refusal::Header);
+    }
+    let n = wire::two(reg, 0) as usize;
+    let m = wire::two(reg, 2) as usize;
+    if !few(n, m) {
+        return Judged::Refused(Refusal::Size);
+    }
+    if !right_head(reg, n, m) {
+        return Judged::Refused(Refusal::Header);
+    }
+    if !links_fine(reg, n, m) {
+        return Judged::Refused(Refusal::Link);
+    }
+    Judged::Accepted { items: n, links: m }
+}
+
+// Not "n > 1,024 or m > 2,048".
+fn few(n: usize, m: usize) -> bool
+    ensures { λ r. ⌜ r ≡ leb n 1024 && leb m 2048 ⌝ }
+{
+    if n <= MOST_ITEMS {
+        m <= MOST_LINKS
+    } else {
+        false
+    }
+}
+
+// "offset of marks (12), offset of links (12 + 4n), total length (12 + 4n + 6m), zero": and the file is exactly so long.
+fn right_head(reg: &[u8], n: usize, m: usize) -> bool
+    requires { ⌜ (12 ≤ length (now reg)) × (n ≡ num2 (now reg) 0) × (m ≡ num2 (now reg) 2) × (n ≤ 1024) × (m ≤ 2048) ⌝ }
+    ensures { λ r. ⌜ r ≡ headed (now (reg .entry)) ⌝ }
+{
+    let links = 12 + 4 * n;
+    let total = links + 6 * m;
+    if wire::two(reg, 4) != 12 {
+        return false;
+    }
+    if wire::two(reg, 6) as usize != links {
+        return false;
+    }
+    if wire::two(reg, 8) as usize != total {
+        return false;
+    }
+    if wire::two(reg, 10) != 0 {
+        return false;
+    }
+    reg.len() == total
+}
+
+// Every link is in range, and each comes after the one before: `least` is the least key that the next may have.
+fn links_fine(reg: &[u8], n: usize, m: usize) -> bool
+    requires { ⌜ (n ≡ num2 (now reg) 0) × (m ≡ num2 (now reg) 2) × (n ≤ 1024) × (m ≤ 2048) × (registerSize n m ≤ length (now reg)) ⌝ }
+    ensures { λ r. ⌜ r ≡ linksFine (registerIn (now (reg .entry))) ⌝ }
+{
+    let mut least: u64 = 0;
+    let mut k = 0;
+    while k < m {
+        let at = 12 + 4 * n + 6 * k;
+        if !in_range(reg, at, n) {
+            return false;
+        }
+        let key = key_at(reg, at);
+        if key < least {
+            return false;
+        }
+        least = key + 1;
+        k += 1;
+    }
+    true
+}
+
+// Not "a link's item ≥ n, its label > 15", for the link at a place.
+fn in_range(reg: &[u8], at: usize, n: usize) -> bool
+    requires { ⌜ at + 6 ≤ length (now reg) ⌝ }
+    ensures { λ r. ⌜ r ≡ linkIn n (linkAt (now (reg .entry)) at) ⌝ }
+{
+    if n <= wire::two(reg, at) as usize {
+        return false;
+    }
+    if LABELS <= wire::two(reg, at + 2) {
+        return false;
+    }
+    (wire::two(reg, at + 4) as usize) < n
+}
+
+// The three fields of the link at a place as one number, so that "ascending in that order of fields" is one comparison.
+fn key_at(reg: &[u8], at: usize) -> u64
+    requires { ⌜ at + 6 ≤ length (now reg) ⌝ }
+    ensures { λ r. ⌜ (r ≡ linkKey (linkAt (now (reg .entry)) at)) × (r < 281474976710656) ⌝ }
+{
+    let source = wire::two(reg, at) as u64;
+    let label = wire::two(reg, at + 2) as u64;
+    let target = wire::two(reg, at + 4) as u64;
+    (source * 65536 + label) * 65536 + target
+}
+
+// The marks of an item of an accepted register.
+pub fn marks(reg: &[u8], x: Item) -> u32
+    requires { ⌜ (fault (now reg) ≡ 0) × (x .0 < items (registerIn (now reg))) ⌝ }
+    ensures { λ r. ⌜ r ≡ marksOf (registerIn (now (reg .entry))) (x .0) ⌝ }
+{
+    let i = x.0 as usize;
+    wire::four(reg, 12 + 4 * i)
+}
+
+// Field f of link k of an accepted register of n items: 0 its source, 1 its label, 2 its target.
+fn field(reg: &[u8], n: usize, k: usize, f: usize) -> u16
+    requires { ⌜ OfLink (now reg) n k × (f < 3) ⌝ }
+    ensures { λ r. ⌜ r ≡ num2 (now (reg .entry)) (linksOffset n + 6 * k + 2 * f) ⌝ }
+{
+    wire::two(reg, 12 + 4 * n + 6 * k + 2 * f)
+}
+
+pub fn source(reg: &[u8], n: usize, k: usize) -> Item
+    requires { ⌜ OfLink (now reg) n k ⌝ }
+    ensures { λ r. ⌜ (r .0 ≡ linkOf (registerIn (now (reg .entry))) k .source) × (r .0 < n) ⌝ }
+{
+    Item(field(reg, n, k, 0))
+}
+
+pub fn label(reg: &[u8], n: usize, k: usize) -> u8
+    requires { ⌜ OfLink (now reg) n k ⌝ }
+    ensures { λ r. ⌜ (r ≡ linkOf (registerIn (now (reg .entry))) k .label) × (r < 16) ⌝ }
+{
+    field(reg, n, k, 1) as u8
+}
+
+pub fn target(reg: &[u8], n: usize, k: usize) -> Item
+    requires { ⌜ OfLink (now reg) n k ⌝ }
+    ensures { λ r. ⌜ (r .0 ≡ linkOf (registerIn (now (reg .entry))) k .target) × (r .0 < n) ⌝ }
+{
+    Item(field(reg, n, k, 2))
+}
