@@ -1,0 +1,137 @@
+//! The cases: registers sound and faulty, each judged, with one line for each verdict.
+//! Four families, in this order: length, limit, faults, seeded.
+
+use crate::bytes::{two_bytes, two_bytes_each};
+use crate::generator::damaged_register;
+use crate::link::Link;
+use crate::numbers::Item;
+use crate::register::Register;
+use std::io::{self, Write};
+
+pub fn print(out: &mut impl Write) -> io::Result<()> {
+    print_lengths(out)?;
+    print_limits(out)?;
+    print_faults(out)?;
+    print_seeded(out)
+}
+
+fn verdict(bytes: &[u8]) -> String {
+    match Register::read(bytes) {
+        Ok(register) => format!("accepted {} {}", register.marks.len(), register.links.len()),
+        Err(refusal) => format!("refused {}", refusal.number()),
+    }
+}
+
+/// The first bytes of a header and one zero byte: too few, just enough, one too many.
+fn print_lengths(out: &mut impl Write) -> io::Result<()> {
+    for (which, (n, m)) in [(0, 0), (1_025, 0), (0, 2_049)].into_iter().enumerate() {
+        let mut bytes = two_bytes_each(&[n, m, 12, 12, 12, 0]);
+        bytes.push(0);
+        for length in 0..=13 {
+            let verdict = verdict(&bytes[..length]);
+            writeln!(out, "length {which} {length} {verdict}")?;
+        }
+    }
+    Ok(())
+}
+
+/// Exact files at the limits and one past them.
+fn print_limits(out: &mut impl Write) -> io::Result<()> {
+    for n in [0, 1, 1_024, 1_025] {
+        for m in [0, 1, 2_048, 2_049] {
+            let verdict = verdict(&paired_register(n, m).write());
+            writeln!(out, "limit {n} {m} {verdict}")?;
+        }
+    }
+    Ok(())
+}
+
+/// Marks of item x are x; link k goes from item k / 2 by label 0 to item k mod 2.
+pub fn paired_register(n: u32, m: usize) -> Register {
+    let link = |k| Link {
+        source: Item(k / 2),
+        label: 0,
+        target: Item(k % 2),
+    };
+    Register {
+        marks: (0..n).collect(),
+        links: (0..m).map(link).collect(),
+    }
+}
+
+/// A small sound file with each fault, and with each pair of faults.
+fn print_faults(out: &mut impl Write) -> io::Result<()> {
+    for (a, one) in FAULTS.iter().enumerate() {
+        for (b, other) in FAULTS.iter().enumerate().skip(a) {
+            let (mut buffer, mut length) = base_file();
+            do_fault(one, &mut buffer, &mut length);
+            do_fault(other, &mut buffer, &mut length);
+            let verdict = verdict(&buffer[..length]);
+            writeln!(out, "faults {a} {b} {verdict}")?;
+        }
+    }
+    Ok(())
+}
+
+enum Fault {
+    /// Each place becomes the number beside it.
+    Numbers(&'static [(usize, usize)]),
+    Length(usize),
+}
+
+const FAULTS: [Fault; 17] = [
+    Fault::Numbers(&[(0, 1_025)]),
+    Fault::Numbers(&[(2, 2_049)]),
+    Fault::Numbers(&[(4, 13)]),
+    Fault::Numbers(&[(6, 25)]),
+    Fault::Numbers(&[(8, 43)]),
+    Fault::Numbers(&[(10, 1)]),
+    Fault::Length(43),
+    Fault::Length(41),
+    Fault::Length(12),
+    Fault::Length(11),
+    Fault::Numbers(&[(36, 3)]),
+    Fault::Numbers(&[(38, 16)]),
+    Fault::Numbers(&[(40, 3)]),
+    Fault::Numbers(&[(34, 1)]),
+    Fault::Numbers(&[(28, 2), (34, 1)]),
+    Fault::Numbers(&[(0, 4)]),
+    Fault::Numbers(&[(2, 2)]),
+];
+
+/// The sound file of 42 bytes, in a buffer with one zero byte more, and its length.
+fn base_file() -> (Vec<u8>, usize) {
+    let link = |(source, label, target)| Link {
+        source: Item(source),
+        label,
+        target: Item(target),
+    };
+    let register = Register {
+        marks: vec![1, 6, 10],
+        links: [(0, 0, 1), (0, 0, 2), (1, 15, 2)].map(link).to_vec(),
+    };
+    let mut buffer = register.write();
+    let length = buffer.len();
+    buffer.push(0);
+    (buffer, length)
+}
+
+/// The buffer takes every number, whatever length is handed on.
+fn do_fault(fault: &Fault, buffer: &mut [u8], length: &mut usize) {
+    match fault {
+        Fault::Numbers(numbers) => {
+            for (at, number) in *numbers {
+                buffer[*at..at + 2].copy_from_slice(&two_bytes(*number));
+            }
+        }
+        Fault::Length(new) => *length = *new,
+    }
+}
+
+fn print_seeded(out: &mut impl Write) -> io::Result<()> {
+    for seed in 1..=3_000 {
+        let verdict = verdict(&damaged_register(seed));
+        writeln!(out, "seeded {seed} {verdict}")?;
+    }
+    Ok(())
+}
