@@ -1,6 +1,7 @@
 // The register file: judged, with document 01's numbers 1, 2 and 3 in their order, and read through accessors that speak of its
 // picture and hand out an Item where the file has an item number. Leans on wire for the bytes.
 use files::Refusal;
+use meaning::Direction;
 use names::Item;
 ghost use mathlib.Core.Path.{_≡_};
 ghost use Prim.Native.Nat.{_+_, _*_, _≤_, _<_};
@@ -8,6 +9,7 @@ ghost use mathlib.Core.Bool.{_&&_};
 ghost use lib.Dec.{leb};
 ghost use lib.ListN.{length};
 ghost use Rattle.meaning.specs.Register.{items, marksOf, linkOf};
+ghost use Rattle.meaning.specs.Register.{near as nearEnd, far as farEnd};
 ghost use Rattle.meaning.specs.WellFormed.{linkIn, linkKey};
 ghost use Rattle.files.specs.Bytes.{num2};
 ghost use Rattle.files.specs.RegisterFile.{linksOffset, registerSize, linkAt, registerIn, headed, linksFine, fault, verdict};
@@ -163,4 +165,25 @@ pub fn target(reg: &[u8], n: usize, k: usize) -> Item
     ensures { λ r. ⌜ (r .0 ≡ linkOf (registerIn (now (reg .entry))) k .target) × (r .0 < n) ⌝ }
 {
     Item(field(reg, n, k, 2))
+}
+
+// The item at which link k is seen that way, and the neighbour to which it leads.
+pub fn near(reg: &[u8], n: usize, k: usize, way: Direction) -> Item
+    requires { ⌜ OfLink (now reg) n k ⌝ }
+    ensures { λ r. ⌜ (r .0 ≡ nearEnd way (linkOf (registerIn (now (reg .entry))) k)) × (r .0 < n) ⌝ }
+{
+    match way {
+        Direction::Outgoing => source(reg, n, k),
+        Direction::Incoming => target(reg, n, k),
+    }
+}
+
+pub fn far(reg: &[u8], n: usize, k: usize, way: Direction) -> Item
+    requires { ⌜ OfLink (now reg) n k ⌝ }
+    ensures { λ r. ⌜ (r .0 ≡ farEnd way (linkOf (registerIn (now (reg .entry))) k)) × (r .0 < n) ⌝ }
+{
+    match way {
+        Direction::Outgoing => target(reg, n, k),
+        Direction::Incoming => source(reg, n, k),
+    }
 }
