@@ -20,7 +20,7 @@ tally-lt p a (suc b) e h =
     (λ f. rw (← f, e) (omega arith))
     (λ f. omega (arith, tally-lt p a b e (omega arith)))
 
-tally-most : (p : ℕ → Bool) (n : ℕ) → tally p n ≤ n
+pub tally-most : (p : ℕ → Bool) (n : ℕ) → tally p n ≤ n
 unfolding sum
 tally-most p zero = omega arith
 tally-most p (suc n) = by-bool (p n) (λ e. rw e (omega (arith, tally-most p n))) (λ e. rw e (omega (arith, tally-most p n)))

@@ -1,0 +1,60 @@
+-- Each item of the row is written true.
+use mathlib.Core.Path.{refl}
+use mathlib.Core.Bool.{true}
+use Prim.Native.Nat.{_-_, _≤_}
+use native.Mathlib.Omega.{arith}
+use Rattle.table.specs.Row.{row}
+use Rattle.table.proofs.Laws.{Part, part-none, part-next, part-all}
+use Rattle.table.proofs.put_true.Statement.{statement}
+use Rattle.table.proofs.put_true.Tie as tie
+
+abbrev Inv-loop : tie.InvT-loop
+Inv-loop table₀ n j x₀ table x = (x ≤ n) × Part table₀ table j (λ y. true) x
+
+abbrev μ-loop : tie.MeasureT-loop
+μ-loop table₀ n j x₀ table x = n - x
+
+loop-holds : tie.Need-loop-holds Inv-loop μ-loop
+loop-holds c = (omega arith, part-none _ _ _)
+
+mul-table : tie.Need-mul-table Inv-loop μ-loop
+mul-table c = omega arith
+
+add-table : tie.Need-add-table Inv-loop μ-loop
+add-table c = omega arith
+
+slice-write-table : tie.Need-slice-write-table Inv-loop μ-loop
+slice-write-table c = omega arith
+
+add-x : tie.Need-add-x Inv-loop μ-loop
+add-x c = omega arith
+
+loop-less : tie.Need-loop-less Inv-loop μ-loop
+loop-less c = omega arith
+
+loop-again : tie.Need-loop-again Inv-loop μ-loop
+loop-again c =
+    let t = c .before in
+    (omega arith, part-next _ _ _ _ _ (t .loop .inv .1) true (omega arith) (omega arith) refl)
+
+same-length : tie.Need-same-length Inv-loop μ-loop
+same-length c = omega arith
+
+returns : tie.Need-returns Inv-loop μ-loop
+returns c = part-all _ _ _ _ _ (c .before .loop .inv .1) _ (omega arith)
+
+pub put-true-spec : {M : Type 1} → statement M
+put-true-spec =
+    tie.close
+    (tie.spec
+    Inv-loop
+    μ-loop
+    loop-holds
+    mul-table
+    add-table
+    slice-write-table
+    add-x
+    loop-less
+    loop-again
+    same-length
+    returns)
