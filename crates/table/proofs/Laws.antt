@@ -16,7 +16,7 @@ use Rattle.meaning.specs.Count.{sum, tally}
 use Rattle.meaning.specs.Register.{Link, Register, linkOf, near, far, leads, neighbours}
 use Rattle.meaning.specs.declared.Direction.{Direction}
 use Rattle.files.specs.RegisterFile.{registerIn}
-use Rattle.promise.proofs.Access.{links-at, readable}
+use Rattle.promise.proofs.Access.{items-at, links-at, readable}
 use Rattle.table.specs.Row.{row, Writes, OfRegister, Counts, Below, Adds}
 
 -- u is t with the first x items of row j written
@@ -100,8 +100,11 @@ module _ (R : Register) (d : Direction) (l : ℕ) (p : ℕ → Bool) where
 
   pub tallied-all : (b c : List ℕ) (n m : ℕ) → R ≡ registerIn b → n ≤ 1024 → m ≡ length (R .links) → Tallied R d l p c m → Counts c b n d l p
   tallied-all b c n m e h f t =
-      record { counted = λ x u. t .so-far x (omega arith) ∙ rw f (sym (neighbours-places R d l p x)) ∙ ap (λ (S : Register). neighbours S d l p x) e }
+      record { long = t .long; counted = λ x u. t .so-far x (omega arith) ∙ rw f (sym (neighbours-places R d l p x)) ∙ ap (λ (S : Register). neighbours S d l p x) e }
 
--- an accepted register has at most 2,048 links
+-- an accepted register has at most 1,024 items and 2,048 links
+pub few-items : (b : List ℕ) (n m : ℕ) → OfRegister b n m → n ≤ 1024
+few-items b n m r = omega (arith, r .items-are, items-at b, readable b (r .fine) .few)
+
 pub few-links : (b : List ℕ) (n m : ℕ) → OfRegister b n m → m ≤ 2048
 few-links b n m r = omega (arith, r .links-are, links-at b, readable b (r .fine) .few-links)

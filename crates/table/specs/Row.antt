@@ -34,8 +34,9 @@ pub record OfRegister (b : List ℕ) (n m : ℕ) : Type 0 where
   pub items-are : n ≡ items (registerIn b)
   pub links-are : m ≡ length (registerIn b .links)
 
--- c counts, for each of n items, its neighbours that way and by that label that pass
+-- c has 1,024 counts and counts, for each of n items, its neighbours that way and by that label that pass
 pub record Counts (c : List ℕ) (b : List ℕ) (n : ℕ) (d : Direction) (l : ℕ) (p : ℕ → Bool) : Type 0 where
+  pub long : length c ≡ 1024
   pub counted : (x : ℕ) → x < n → getD c x 0 ≡ neighbours (registerIn b) d l p x
 
 -- 1,024 counts, every one below k
