@@ -1,0 +1,102 @@
+// The public calls. Each takes any input, judges it for itself and refuses with document 01's numbers in document 01's order; its
+// contract is an equation with the call's one definition in files' Answers. The exported functions give the same as one number.
+use files::Refusal;
+use inquiry::Asked;
+use names::Item;
+use register::Judged;
+ghost use mathlib.Core.Path.{_≡_};
+ghost use Rattle.files.specs.QuestionFile.{question};
+ghost use Rattle.files.specs.Refusals.{numberOf};
+ghost use Rattle.files.specs.Answers.{word, number, returned, code, askTree, askRegister};
+ghost use Rattle.table.specs.Row.{OfRegister};
+ghost use Rattle.inquiry.specs.Known.{Whole};
+ghost use Rattle.hestovane.specs.Told.{told};
+
+// Yes, no, or the refusal.
+pub enum Said {
+    Yes,
+    No,
+    Refused(Refusal),
+}
+
+// Whether the question holds at the item of the register: "ask a register 1, 2, 3, 5, 8".
+pub fn ask_register(reg: &[u8], q: &[u8], item: u16) -> Said
+    ensures { λ r. ⌜ told r ≡ returned (askRegister (now (reg .entry)) (now (q .entry)) item) ⌝ }
+{
+    let judged = register::judge(reg);
+    match judged {
+        Judged::Accepted { items, links } => ask_accepted(reg, items, links, q, item),
+        Judged::Refused(refusal) => Said::Refused(refusal),
+    }
+}
+
+// The register is accepted: 5.
+fn ask_accepted(reg: &[u8], n: usize, m: usize, q: &[u8], item: u16) -> Said
+    requires { ⌜ OfRegister (now reg) n m ⌝ }
+    ensures { λ r. ⌜ told r ≡ returned (askTree (now (reg .entry)) item (question (now (q .entry)))) ⌝ }
+{
+    let judged = question::judge(q);
+    match judged {
+        question::Judged::Accepted {
+            depth: _,
+            threshold: _,
+        } => ask_whole(reg, n, m, q, item),
+        question::Judged::Refused(refusal) => Said::Refused(refusal),
+    }
+}
+
+// And the question is well formed: 8, and then the answer.
+fn ask_whole(reg: &[u8], n: usize, m: usize, q: &[u8], item: u16) -> Said
+    requires { ⌜ OfRegister (now reg) n m × Whole (now q) ⌝ }
+    ensures { λ r. ⌜ told r ≡ returned (askTree (now (reg .entry)) item (question (now (q .entry)))) ⌝ }
+{
+    if n <= item as usize {
+        return Said::Refused(Refusal::Item);
+    }
+    let asked = inquiry::ask(reg, n, m, q, Item(item));
+    match asked {
+        Asked::Said(yes) => spoken(yes),
+        Asked::Refused(refusal) => Said::Refused(refusal),
+    }
+}
+
+fn spoken(yes: bool) -> Said
+    ensures { λ r. ⌜ told r ≡ word yes ⌝ }
+{
+    if yes { Said::Yes } else { Said::No }
+}
+
+// Minus the refusal's number.
+fn minus(refusal: Refusal) -> i32
+    ensures { λ r. ⌜ r ≡ code (number (numberOf refusal)) ⌝ }
+{
+    match refusal {
+        Refusal::Header => -1,
+        Refusal::Size => -2,
+        Refusal::Link => -3,
+        Refusal::Range => -4,
+        Refusal::Question => -5,
+        Refusal::Summary => -6,
+        Refusal::Beyond => -7,
+        Refusal::Item => -8,
+        Refusal::Room => -9,
+    }
+}
+
+// 1 for yes, 0 for no, or minus the refusal's number.
+fn coded(answer: Said) -> i32
+    ensures { λ r. ⌜ r ≡ code (told answer) ⌝ }
+{
+    match answer {
+        Said::Yes => 1,
+        Said::No => 0,
+        Said::Refused(refusal) => minus(refusal),
+    }
+}
+
+#[no_mangle]
+pub extern "C" fn hestovane_ask_register(reg: &[u8], q: &[u8], item: u16) -> i32
+    ensures { λ r. ⌜ r ≡ code (returned (askRegister (now (reg .entry)) (now (q .entry)) item)) ⌝ }
+{
+    coded(ask_register(reg, q, item))
+}
