@@ -20,3 +20,10 @@ pub fn two_bytes(number: usize) -> [u8; 2] {
 pub fn two_bytes_each(numbers: &[usize]) -> Vec<u8> {
     numbers.iter().copied().flat_map(two_bytes).collect()
 }
+
+/// The file with the two-byte number at a place replaced.
+pub fn with_number(file: &[u8], at: usize, number: usize) -> Vec<u8> {
+    let mut changed = file.to_vec();
+    changed[at..at + 2].copy_from_slice(&two_bytes(number));
+    changed
+}

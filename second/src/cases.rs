@@ -1,4 +1,4 @@
-//! The cases: registers sound and faulty, each judged, with one line for each verdict.
+//! The cases of judging: registers sound and faulty, with one line for each verdict.
 //! Four families, in this order: length, limit, faults, seeded.
 
 use crate::bytes::{two_bytes, two_bytes_each};
@@ -99,18 +99,22 @@ const FAULTS: [Fault; 17] = [
     Fault::Numbers(&[(2, 2)]),
 ];
 
-/// The sound file of 42 bytes, in a buffer with one zero byte more, and its length.
-fn base_file() -> (Vec<u8>, usize) {
+/// The sound register that the faults are done to.
+pub fn base_register() -> Register {
     let link = |(source, label, target)| Link {
         source: Item(source),
         label,
         target: Item(target),
     };
-    let register = Register {
+    Register {
         marks: vec![1, 6, 10],
         links: [(0, 0, 1), (0, 0, 2), (1, 15, 2)].map(link).to_vec(),
-    };
-    let mut buffer = register.write();
+    }
+}
+
+/// Its file of 42 bytes, in a buffer with one zero byte more, and its length.
+fn base_file() -> (Vec<u8>, usize) {
+    let mut buffer = base_register().write();
     let length = buffer.len();
     buffer.push(0);
     (buffer, length)

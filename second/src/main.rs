@@ -1,7 +1,10 @@
 //! `second`: crane registers, their summaries, and questions on both, written a second time.
-//! Without an argument it judges a fixed set of registers and prints one line for each;
-//! `second condense` condenses the register on standard input and prints its summary.
+//! Without an argument it judges a fixed set of registers, asks a fixed set of questions, and
+//! prints one line for each case; `second condense` condenses the register on standard input and
+//! prints its summary.
 
+mod answers;
+mod asking;
 mod bytes;
 mod caps;
 mod cases;
@@ -12,14 +15,13 @@ mod neighbours;
 mod numbers;
 mod program;
 mod question;
+mod question_generator;
 mod refusal;
 mod register;
 mod summary;
 mod wellformed;
 
-// No line that `second` prints needs these calls yet; the tests hold them to the document.
-#[cfg_attr(not(test), expect(dead_code))]
-mod answers;
+// No line that `second` prints needs the check yet; the tests hold it to the document.
 #[cfg_attr(not(test), expect(dead_code))]
 mod check;
 
@@ -34,7 +36,10 @@ fn main() -> io::Result<ExitCode> {
     let arguments: Vec<_> = env::args_os().skip(1).collect();
     let mut out = BufWriter::new(io::stdout().lock());
     match arguments.as_slice() {
-        [] => cases::print(&mut out)?,
+        [] => {
+            cases::print(&mut out)?;
+            asking::print(&mut out)?;
+        }
         [word] if word == "condense" => program::run(io::stdin().lock(), &mut out)?,
         _ => {
             eprintln!("usage: second [condense]");

@@ -4,7 +4,7 @@
 use crate::link::{Direction, Way};
 use crate::refusal::Refusal;
 
-const ENTRY: usize = 4;
+pub const ENTRY: usize = 4;
 const MOST_ENTRIES: usize = 64;
 
 pub enum Question {
@@ -60,6 +60,11 @@ impl Question {
             } => operand.greatest_threshold().max(*threshold),
         }
     }
+}
+
+/// An entry of these first two bytes; "bytes three and four are 0".
+pub fn entry(first: u8, second: u8) -> [u8; ENTRY] {
+    [first, second, 0, 0]
 }
 
 /// The question that the bytes begin with, and the bytes behind it; none where an entry is

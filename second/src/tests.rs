@@ -1,6 +1,8 @@
-//! The tests: the document's examples by number, its limits, the refusals and their orders, and
-//! the law that a summary answers as its register does. What they share stands here.
+//! The tests: the document's examples by number, its limits, the refusals and their orders, the
+//! law that a summary answers as its register does, and the printed cases of asking. What they
+//! share stands here.
 
+mod asking;
 mod check;
 mod examples;
 mod limits;
@@ -8,7 +10,7 @@ mod property;
 mod refusals;
 
 use crate::answers::{ask_register, ask_summary, list_from_summary};
-use crate::bytes::two_bytes_each;
+use crate::bytes::{two_bytes_each, with_number};
 use crate::condense::condense;
 use crate::link::Link;
 use crate::numbers::Item;
@@ -71,13 +73,6 @@ fn summary(level: usize, neighbour_cap: usize, class_cap: usize, register: &[u8]
 
 fn read_summary(file: &[u8]) -> Summary {
     Summary::read(file).expect("well formed")
-}
-
-/// The file with the number at a place replaced.
-fn with_number(file: &[u8], at: usize, number: usize) -> Vec<u8> {
-    let mut changed = file.to_vec();
-    changed[at..at + 2].copy_from_slice(&two_bytes_each(&[number]));
-    changed
 }
 
 fn listed(summary: &[u8], question: &[u8]) -> Result<Vec<u8>, Refusal> {

@@ -1,15 +1,20 @@
-// Runs cases through the proved library and prints a line for each, the family, the case's numbers, the verdict. The second program
-// prints the same lines from its own code; `stdout` here is what it printed. Leans on cases, which are built by dice and bytes.
-mod bytes;
-mod cases;
-mod damage;
-mod dice;
-mod line;
-mod made;
+// Runs cases through the proved library and prints a line for each: the family, the case's numbers, the answer. The second program prints
+// the same lines from its own code, and `stdout` here is what it printed. Leans on casework for dice, bytes and lines.
+mod asking;
+mod judging;
 
 fn main() {
-    cases::lengths();
-    cases::limits();
-    cases::faults();
-    cases::seeded();
+    judging::lengths();
+    judging::limits();
+    judging::faults();
+    judging::seeded();
+    asking::codes();
+    asking::tails();
+    asking::literals();
+    asking::entries();
+    asking::prefixes();
+    asking::nested();
+    asking::orders();
+    asking::seeded();
+    asking::around();
 }

@@ -1,0 +1,51 @@
+-- The loop ends: a byte of the word is left behind at each turn.
+use Prim.Native.Nat.{_-_, _≤_}
+use lib.ListN.{length}
+use borrow.Author.Needs.{needs}
+use Rattle.casework.proofs.line.Line.word.Statement.{statement}
+use Rattle.casework.proofs.line.Line.word.Tie as tie
+
+abbrev Inv-loop : tie.InvT-loop
+Inv-loop w line₀ i₀ line i = i ≤ length w
+
+abbrev μ-loop : tie.MeasureT-loop
+μ-loop w line₀ i₀ line i = length w - i
+
+byte-requires : tie.Need-byte-requires Inv-loop μ-loop
+byte-requires c κs = search needs
+
+loop-holds : tie.Need-loop-holds Inv-loop μ-loop
+loop-holds c = search needs
+
+shared-slice-read-byte : tie.Need-shared-slice-read-byte Inv-loop μ-loop
+shared-slice-read-byte c = search needs
+
+byte-requires-2 : tie.Need-byte-requires-2 Inv-loop μ-loop
+byte-requires-2 c κs = search needs
+
+add-i : tie.Need-add-i Inv-loop μ-loop
+add-i c = search needs
+
+loop-less : tie.Need-loop-less Inv-loop μ-loop
+loop-less c = search needs
+
+loop-again : tie.Need-loop-again Inv-loop μ-loop
+loop-again c = search needs
+
+returns : tie.Need-returns Inv-loop μ-loop
+returns c = search needs
+
+pub word-spec : {M : Type 1} → statement M
+word-spec =
+    tie.close
+    (tie.spec
+    Inv-loop
+    μ-loop
+    byte-requires
+    loop-holds
+    shared-slice-read-byte
+    byte-requires-2
+    add-i
+    loop-less
+    loop-again
+    returns)

@@ -1,0 +1,186 @@
+// The question of a seed: entries thrown until no operand is open, then the bytes damaged or left whole. Each entry: a throw below 10,
+// taken mod 3 where the entries so far and the open ones reach 60. 0 is true; 1, 2 a literal of a mark picked from 1, 2, 3, 4, 32 by a
+// throw below 5, absent where a throw below 2 is 1; 3 not; 4 and; 5 or; 6 to 9 an at-least, outgoing for 6 and 7, by a label picked from
+// 0, 1, 15 by a throw below 3, of one more than a throw below 3. Damage, a throw below 8: 0 a byte at (throw below the length) becomes
+// (throw below 256); 1 cut to (throw below the length plus one); 2 an entry true more; 3 a byte 0 more; 4 the third byte of entry (throw
+// below the count) becomes 1; 5, 6, 7 nothing.
+use crate::bytes;
+use crate::dice::Dice;
+ghost use Prim.Native.Nat.{_≤_, _<_};
+
+// A question under way in a buffer: how many entries it has, how many operands are still open, how long it is, the dice as they lie.
+pub struct Asking {
+    pub count: usize,
+    pub open: usize,
+    pub len: usize,
+    pub dice: Dice,
+}
+
+fn mark(throw: u64) -> u64
+    ensures { λ r. ⌜ r ≤ 32 ⌝ }
+{
+    match throw {
+        0 => 1,
+        1 => 2,
+        2 => 3,
+        3 => 4,
+        _ => 32,
+    }
+}
+
+fn label(throw: u64) -> u64
+    ensures { λ r. ⌜ r ≤ 15 ⌝ }
+{
+    match throw {
+        0 => 0,
+        1 => 1,
+        _ => 15,
+    }
+}
+
+// Entry number `at`, as four bytes.
+pub fn put_entry(b: &mut [u8], at: usize, first: u64, second: u64) {
+    let len = b.len();
+    if at < 65536 {
+        bytes::set(b, len, 4 * at, first);
+        bytes::set(b, len, 4 * at + 1, second);
+        bytes::set_two(b, len, 4 * at + 2, 0);
+    }
+}
+
+// One entry more, after which `open` operands are open.
+fn more(b: &mut [u8], a: Asking, dice: Dice, open: usize, first: u64, second: u64) -> Asking {
+    put_entry(b, a.count, first, second);
+    if 65536 <= a.count {
+        return a;
+    }
+    let count = a.count + 1;
+    Asking {
+        count,
+        open,
+        len: 4 * count,
+        dice,
+    }
+}
+
+fn literal(b: &mut [u8], a: Asking, open: usize) -> Asking {
+    let which = a.dice.thrown();
+    let sign = which.thrown();
+    let k = mark(which.shows(5));
+    let second = if sign.shows(2) == 0 { k } else { 256 - k };
+    more(b, a, sign, open, 1, second)
+}
+
+fn at_least(b: &mut [u8], a: Asking, way: u64) -> Asking
+    requires { ⌜ way ≤ 32 ⌝ }
+{
+    let which = a.dice.thrown();
+    let least = which.thrown();
+    more(
+        b,
+        a,
+        least,
+        a.open,
+        way + label(which.shows(3)),
+        1 + least.shows(3),
+    )
+}
+
+// The next entry.
+fn entry(b: &mut [u8], a: Asking) -> Asking
+    requires { ⌜ 0 < a .open ⌝ }
+{
+    let dice = a.dice.thrown();
+    let now = Asking {
+        count: a.count,
+        open: a.open,
+        len: a.len,
+        dice,
+    };
+    let k = kind(dice.shows(10), a.count, a.open);
+    let less = a.open - 1;
+    match k {
+        0 => more(b, now, dice, less, 0, 0),
+        1 | 2 => literal(b, now, less),
+        3 => more(b, now, dice, a.open, 2, 0),
+        4 => more(b, now, dice, one_more(a.open), 3, 0),
+        5 => more(b, now, dice, one_more(a.open), 4, 0),
+        6 | 7 => at_least(b, now, 16),
+        _ => at_least(b, now, 32),
+    }
+}
+
+fn one_more(open: usize) -> usize {
+    if open < 65536 { open + 1 } else { open }
+}
+
+fn kind(throw: u64, count: usize, open: usize) -> u64 {
+    if count % 65536 + open % 65536 < 60 {
+        throw
+    } else {
+        throw % 3
+    }
+}
+
+// The whole question: no question has more than 64 entries.
+pub fn whole(b: &mut [u8], dice: Dice) -> Asking {
+    let mut a = Asking {
+        count: 0,
+        open: 1,
+        len: 0,
+        dice,
+    };
+    let mut turns: usize = 0;
+    while turns < 64 {
+        a = further(b, a);
+        turns += 1;
+    }
+    a
+}
+
+// One entry more, if an operand is open.
+fn further(b: &mut [u8], a: Asking) -> Asking {
+    if a.open == 0 { a } else { entry(b, a) }
+}
+
+// The length of the question once it is damaged, or left whole.
+pub fn damaged(b: &mut [u8], a: Asking) -> usize {
+    let dice = a.dice.thrown();
+    let next = dice.thrown();
+    let kind = dice.shows(8);
+    match kind {
+        0 => any_byte(b, a.len, next),
+        1 => next.shows(a.len as u64 % 65536 + 1) as usize,
+        2 => longer(b, a, 4),
+        3 => longer(b, a, 1),
+        4 => third_byte(b, a, next),
+        _ => a.len,
+    }
+}
+
+fn any_byte(b: &mut [u8], len: usize, place: Dice) -> usize {
+    if len == 0 {
+        return len;
+    }
+    let value = place.thrown();
+    bytes::set(b, len, place.shows(len as u64) as usize, value.shows(256));
+    len
+}
+
+fn longer(b: &mut [u8], a: Asking, by: usize) -> usize
+    requires { ⌜ by ≤ 4 ⌝ }
+{
+    put_entry(b, a.count, 0, 0);
+    a.len % 65536 + by
+}
+
+fn third_byte(b: &mut [u8], a: Asking, place: Dice) -> usize {
+    if a.count == 0 {
+        return a.len;
+    }
+    let at = place.shows(a.count as u64) as usize;
+    if at < 65536 {
+        bytes::set(b, a.len, 4 * at + 2, 1);
+    }
+    a.len
+}

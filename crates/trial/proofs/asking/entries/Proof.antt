@@ -1,0 +1,46 @@
+-- The loop ends.
+use Prim.Native.Nat.{_-_, _≤_}
+use borrow.Author.Needs.{needs}
+use Rattle.trial.proofs.asking.entries.Statement.{statement}
+use Rattle.trial.proofs.asking.entries.Tie as tie
+
+abbrev Inv-loop : tie.InvT-loop
+Inv-loop c₀ c = c ≤ 6
+
+abbrev μ-loop : tie.MeasureT-loop
+μ-loop c₀ c = 6 - c
+
+loop-holds : tie.Need-loop-holds Inv-loop μ-loop
+loop-holds c = search needs
+
+entry-count-requires : tie.Need-entry-count-requires Inv-loop μ-loop
+entry-count-requires c κs = search needs
+
+of-entries-requires : tie.Need-of-entries-requires Inv-loop μ-loop
+of-entries-requires c κs = search needs
+
+add-c : tie.Need-add-c Inv-loop μ-loop
+add-c c = search needs
+
+loop-less : tie.Need-loop-less Inv-loop μ-loop
+loop-less c = search needs
+
+loop-again : tie.Need-loop-again Inv-loop μ-loop
+loop-again c = search needs
+
+returns : tie.Need-returns Inv-loop μ-loop
+returns c = search needs
+
+pub entries-spec : {M : Type 1} → statement M
+entries-spec =
+    tie.close
+    (tie.spec
+    Inv-loop
+    μ-loop
+    loop-holds
+    entry-count-requires
+    of-entries-requires
+    add-c
+    loop-less
+    loop-again
+    returns)
