@@ -162,43 +162,37 @@ fn fault(b: &mut [u8], len: usize, which: usize) -> usize {
             len
         }
         _ => {
-            bytes::set_two(b, 43, fault_place(which), fault_value(which));
+            let wrong = field(which);
+            bytes::set_two(b, 43, wrong.at, wrong.number);
             len
         }
     }
 }
 
-fn fault_place(which: usize) -> usize {
-    match which {
-        0 => 0,
-        1 => 2,
-        2 => 4,
-        3 => 6,
-        4 => 8,
-        5 => 10,
-        10 => 36,
-        11 => 38,
-        12 => 40,
-        13 => 34,
-        15 => 0,
-        _ => 2,
-    }
+// A two-byte number at a place.
+struct Wrong {
+    at: usize,
+    number: u64,
 }
 
-fn fault_value(which: usize) -> u64 {
+fn at(at: usize, number: u64) -> Wrong {
+    Wrong { at, number }
+}
+
+fn field(which: usize) -> Wrong {
     match which {
-        0 => 1025,
-        1 => 2049,
-        2 => 13,
-        3 => 25,
-        4 => 43,
-        5 => 1,
-        10 => 3,
-        11 => 16,
-        12 => 3,
-        13 => 1,
-        15 => 4,
-        _ => 2,
+        0 => at(0, 1025),
+        1 => at(2, 2049),
+        2 => at(4, 13),
+        3 => at(6, 25),
+        4 => at(8, 43),
+        5 => at(10, 1),
+        10 => at(36, 3),
+        11 => at(38, 16),
+        12 => at(40, 3),
+        13 => at(34, 1),
+        15 => at(0, 4),
+        _ => at(2, 2),
     }
 }
 

@@ -6,11 +6,11 @@ use Prim.Native.Nat.{ℕ, zero, suc, _+_, _*_, _≤_}
 use native.Mathlib.Omega.{arith}
 use native.Mathlib.Nat.{add-zero, suc-add, add-suc}
 use native.Mathlib.Numerals.{add-one}
-use lib.ListN.{length, set, drop, length-append}
-use lib.Seq.{sets, sets-eq}
+use lib.ListN.{length, getD, set, take, length-append}
+use lib.Seq.{sets, sets-eq, take-suc}
 use Rattle.meaning.specs.Count.{tab, join}
-use Rattle.files.specs.Bytes.{pack}
-use Rattle.files.specs.Answers.{Answer, wrote, left}
+use Rattle.files.specs.Bytes.{put2, pack}
+use Rattle.files.specs.Answers.{wrote, left}
 
 -- ---- one part after another
 
@@ -46,6 +46,22 @@ pack-tab put f (suc n) = append (tab f n) (f n) ∙ ap (λ (s : List ℕ). s ++ 
     append : (s : List _) (a : _) → pack put (s ++ (a ∷ [])) ≡ pack put s ++ put a
     append [] a = append-nil (put a)
     append (b ∷ s) a = ap (λ (t : List ℕ). put b ++ t) (append s a) ∙ sym (append-assoc (put b) (pack put s) (put a))
+
+-- the first n of a list of numbers, as a loop writes them
+unfoldable pub numbered : List ℕ → ℕ → List ℕ
+numbered t k = put2 (getD t k 0)
+
+pub numbers-size : (t : List ℕ) (n : ℕ) → length (join (numbered t) n) ≡ 2 * n
+unfolding numbered put2
+numbers-size t n = length-records (numbered t) 2 (λ i. refl) n
+
+pub numbers-all : (t : List ℕ) (n : ℕ) → n ≤ length t → join (numbered t) n ≡ pack put2 (take n t)
+unfolding numbered tab
+numbers-all t n h = sym (pack-tab put2 (λ k. getD t k 0) n) ∙ ap (pack put2) (front n h)
+  where
+    front : (n : ℕ) → n ≤ length t → tab (λ k. getD t k 0) n ≡ take n t
+    front zero h = refl
+    front (suc n) h = ap (λ (s : List ℕ). s ++ (getD t n 0 ∷ [])) (front n (omega arith)) ∙ sym (take-suc t n 0 (omega arith))
 
 -- ---- a whole answer, from the front: "bytes past that length stay"
 

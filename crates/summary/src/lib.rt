@@ -1,0 +1,42 @@
+// The summary file, its writing half. Every field of the file is a two-byte number, or two of them: so a file is a list of numbers in
+// five parts, header, classes, rows, class links, map, and each part is written by one loop. Leans on wire for the loop.
+ghost use mathlib.Core.Path.{_≡_};
+ghost use Prim.Native.Nat.{_+_, _*_, _≤_};
+ghost use lib.ListN.{length};
+ghost use lib.Seq.{sets};
+ghost use Rattle.files.specs.Bytes.{put2, pack};
+ghost use Rattle.summary.specs.Numbers.{Parts, numbers};
+
+// How many numbers a class record, a row and a class link have.
+pub const CLASS: usize = 4;
+
+pub const ROW: usize = 4;
+
+pub const EDGE: usize = 3;
+
+// The five parts, of c classes, r rows, e class links and n items.
+pub fn put_parts(
+    out: &mut [u8],
+    head: &[u16],
+    classes: &[u16],
+    c: usize,
+    rows: &[u16],
+    r: usize,
+    edges: &[u16],
+    e: usize,
+    map: &[u16],
+    n: usize,
+)
+    requires { ⌜ Parts (now head) (now classes) c (now rows) r (now edges) e (now map) n (length (now out)) ⌝ }
+    ensures { λ _. ⌜ now (out .exit) ≡ sets (now (out .entry)) 0 (pack put2 (numbers (now (head .entry)) (now (classes .entry)) c (now (rows .entry)) r (now (edges .entry)) e (now (map .entry)) n)) ⌝ }
+{
+    wire::put_numbers(out, 0, head, 12);
+    let mut at = 24;
+    wire::put_numbers(out, at, classes, CLASS * c);
+    at += 2 * CLASS * c;
+    wire::put_numbers(out, at, rows, ROW * r);
+    at += 2 * ROW * r;
+    wire::put_numbers(out, at, edges, EDGE * e);
+    at += 2 * EDGE * e;
+    wire::put_numbers(out, at, map, n);
+}

@@ -1,0 +1,32 @@
+/* Hestovane: crane registers, their summaries and questions, proved.
+ *
+ * Each call takes any input, ends, and judges it for itself. It returns 1 for yes and 0 for no, or a
+ * length of 0 or more, or minus the number of the refusal:
+ *   1 register under 12 bytes; or wrong offsets, total, zero field or length
+ *   2 n > 1,024 or m > 2,048
+ *   3 a link's item >= n, its label > 15, or order not strict
+ *   4 level or caps out of range
+ *   5 question malformed
+ *   6 summary not well formed
+ *   7 question deeper than the level, or a threshold above the neighbour cap plus one
+ *   8 item number >= n
+ *   9 output buffer shorter than the answer
+ * A null pointer with length 0 is allowed. */
+#ifndef HESTOVANE_H
+#define HESTOVANE_H
+
+#include <stddef.h>
+#include <stdint.h>
+
+#ifdef __cplusplus
+extern "C" {
+#endif
+
+/* Whether the question holds at the item of the register: 1, 0, or refused with 1, 2, 3, 5, 8 in that order. */
+int32_t hestovane_ask_register(const uint8_t *reg, size_t reg_len, const uint8_t *q, size_t q_len, uint16_t item);
+
+#ifdef __cplusplus
+}
+#endif
+
+#endif
