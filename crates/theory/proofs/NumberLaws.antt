@@ -97,7 +97,7 @@ module _ (like : ℕ → ℕ → Bool) (eq : Equivalence like) where
 
 -- ---- a list of numbers
 
-getD-below : (cs : List ℕ) (x : ℕ) → x < length cs → getD cs x 0 < classCount cs
+pub getD-below : (cs : List ℕ) (x : ℕ) → x < length cs → getD cs x 0 < classCount cs
 unfolding classCount
 getD-below [] x h = absurd (omega arith)
 getD-below (k ∷ ks) zero h = omega arith

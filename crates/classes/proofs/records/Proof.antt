@@ -1,0 +1,79 @@
+-- The items below x are entered; once all are, the records are the summary's.
+use mathlib.Core.Path.{subst}
+use mathlib.Core.Path.{_≡_}
+use Prim.Native.Nat.{ℕ, _-_, _≤_, _<_}
+use native.Mathlib.Omega.{arith}
+use lib.ListN.{length, take, length-replicate}
+use Rattle.files.specs.RegisterFile.{registerIn}
+use Rattle.classes.proofs.Laws.{Under, none-entered, n-items, class-small, entered-in, sorted-all}
+use Rattle.classes.proofs.records.Statement.{statement}
+use Rattle.classes.proofs.records.Tie as tie
+
+abbrev Inv-loop : tie.InvT-loop
+Inv-loop reg n groups classes nu out₀ x₀ out x = (x ≤ n) × (length out ≡ 4096) × ((k : ℕ) → k < 1024 → Under (registerIn reg) (take n groups) (take n classes) nu out x k)
+
+abbrev μ-loop : tie.MeasureT-loop
+μ-loop reg n groups classes nu out₀ x₀ out x = n - x
+
+loop-holds : tie.Need-loop-holds Inv-loop μ-loop
+loop-holds c = (omega arith, length-replicate {A = ℕ} 4096 0, λ k h. none-entered _ _ _ _ k h)
+
+mul-enter : tie.Need-mul-enter Inv-loop μ-loop
+mul-enter c = omega (arith, n-items _ _ _ _ (c .before .before .before .before .before .pre))
+
+shared-slice-read-enter : tie.Need-shared-slice-read-enter Inv-loop μ-loop
+shared-slice-read-enter c = omega (arith, c .before .before .before .before .before .before .pre .groups-there)
+
+mul-enter-2 : tie.Need-mul-enter-2 Inv-loop μ-loop
+mul-enter-2 c = omega (arith, n-items _ _ _ _ (c .before .before .before .before .before .before .pre))
+
+shared-slice-read-enter-2 : tie.Need-shared-slice-read-enter-2 Inv-loop μ-loop
+shared-slice-read-enter-2 c = omega (arith, c .before .before .before .before .before .before .before .pre .classes-there)
+
+slice-aggregate-enter : tie.Need-slice-aggregate-enter Inv-loop μ-loop
+slice-aggregate-enter c = omega (arith, c .before .before .before .before .loop .inv .1)
+
+enter-requires : tie.Need-enter-requires Inv-loop μ-loop
+enter-requires c κs =
+    let l = c .before .before .before .before in
+    let s = l .before .before .before .before in
+    let few = n-items _ _ _ _ (s .pre) in
+    (s .pre .fine, omega (arith, s .pre .items-are), omega arith, class-small _ _ _ _ (s .pre) _ (omega arith), l .loop .inv .1)
+
+add-x : tie.Need-add-x Inv-loop μ-loop
+add-x c = omega (arith, n-items _ _ _ _ (c .before .before .before .before .before .before .before .before .before .before .pre))
+
+loop-less : tie.Need-loop-less Inv-loop μ-loop
+loop-less c = omega arith
+
+loop-again : tie.Need-loop-again Inv-loop μ-loop
+loop-again c =
+    let e = c .before in
+    let l = e .before .before .before .before .before in
+    let s = l .before .before .before .before in
+    (omega arith, omega arith, λ k h. entered-in _ _ _ _ (s .pre) _ _ _ _ (omega arith) (e .enter .ensures) k (l .loop .inv .2 k h))
+
+returns : tie.Need-returns Inv-loop μ-loop
+returns c =
+    let s = c .before .before .before .before .before in
+    let e : c .before .loop .x ≡ s .args .n = omega arith in
+    sorted-all _ _ _ _ (s .pre) _ _ (c .before .loop .inv .1)
+    (λ k h. subst (λ (x : ℕ). Under (registerIn (s .args .reg .now)) (take (s .args .n) (s .args .groups .now)) (take (s .args .n) (s .args .classes .now)) (s .args .nu) (c .before .loop .out) x k) e (c .before .loop .inv .2 k h))
+
+pub records-spec : {M : Type 1} → statement M
+records-spec =
+    tie.close
+    (tie.spec
+    Inv-loop
+    μ-loop
+    loop-holds
+    mul-enter
+    shared-slice-read-enter
+    mul-enter-2
+    shared-slice-read-enter-2
+    slice-aggregate-enter
+    enter-requires
+    add-x
+    loop-less
+    loop-again
+    returns)

@@ -1,0 +1,48 @@
+// The class records of a summary: "Class, eight bytes: marks (four), group, item count capped at ν." The items are gone through once, in
+// order: the first of a class gives it its marks and its group, and each is counted. Leans on capped for the count.
+use capped::Capped;
+use names::Item;
+ghost use mathlib.Core.Path.{_≡_};
+ghost use Prim.Native.Nat.{_+_, _*_, _<_, _≤_};
+ghost use lib.ListN.{length, take};
+ghost use Rattle.meaning.specs.Count.{tab};
+ghost use Rattle.meaning.specs.Register.{items, marksOf};
+ghost use Rattle.meaning.specs.Level.{classCount};
+ghost use Rattle.meaning.specs.Condense.{classFor};
+ghost use Rattle.files.specs.Bytes.{pack};
+ghost use Rattle.files.specs.RegisterFile.{registerIn, fault};
+ghost use Rattle.summary.specs.Numbers.{classFields, classNumbers};
+ghost use Rattle.classes.specs.Counted.{Sorted, Enters, Numbered};
+
+// The records of the classes, four numbers each.
+pub fn records(reg: &[u8], n: usize, groups: &[u16], classes: &[u16], nu: u8) -> [u16; 4096]
+    requires { ⌜ Sorted (now reg) n (now groups) (now classes) ⌝ }
+    ensures { λ r. ⌜ Numbered r (registerIn (now (reg .entry))) (take n (now (groups .entry))) (take n (now (classes .entry))) nu ⌝ }
+{
+    let mut out = [0u16; 4096];
+    let mut x = 0;
+    while x < n {
+        enter(reg, x, groups[x], classes[x], nu, &mut out);
+        x += 1;
+    }
+    out
+}
+
+// Item x entered in its class.
+fn enter(reg: &[u8], x: usize, group: u16, class: u16, nu: u8, out: &mut [u16])
+    requires { ⌜ (fault (now reg) ≡ 0) × (x < items (registerIn (now reg))) × (x < 1024) × (class < 1024) × (length (now out) ≡ 4096) ⌝ }
+    ensures { λ r. ⌜ Enters (now (out .entry)) (now (out .exit)) class (marksOf (registerIn (now (reg .entry))) x) group nu ⌝ }
+{
+    let at = 4 * (class as usize);
+    let number = out[at + 3];
+    if 0 < number {
+        let counted = Capped { cap: nu, number }.one_more();
+        out[at + 3] = counted.number;
+        return;
+    }
+    let marks = register::marks(reg, Item(x as u16));
+    out[at] = (marks / 65536) as u16;
+    out[at + 1] = (marks % 65536) as u16;
+    out[at + 2] = group;
+    out[at + 3] = 1;
+}
