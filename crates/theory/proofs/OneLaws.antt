@@ -27,7 +27,7 @@ three a b c x y z hb hc hy hz e =
     let f : a * 65536 + b ≡ x * 65536 + y = omega arith in
     (omega arith, omega arith, omega arith)
 
-way-tells : (d e : Direction) (l m : ℕ) → l < 16 → m < 16 → way d l ≡ way e m → (d ≡ e) × (l ≡ m)
+pub way-tells : (d e : Direction) (l m : ℕ) → l < 16 → m < 16 → way d l ≡ way e m → (d ≡ e) × (l ≡ m)
 unfolding way
 way-tells Outgoing Outgoing l m u v h = (refl, h)
 way-tells Outgoing Incoming l m u v h = absurd (omega arith)
