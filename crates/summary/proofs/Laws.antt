@@ -9,9 +9,9 @@ use Rattle.meaning.specs.Summary.{Class, Row, Summary}
 use Rattle.meaning.specs.Register.{Link}
 use Rattle.files.specs.Bytes.{put2, put4, pack}
 use Rattle.files.specs.RegisterFile.{putLink}
-use Rattle.files.specs.SummaryFile.{rowsOffset, edgesOffset, mapOffset, putClass, putRow, summaryHead, summaryBytes}
+use Rattle.files.specs.SummaryFile.{rowsOffset, edgesOffset, mapOffset, summarySize, putClass, putRow, summaryHead, summaryBytes}
 use Rattle.wire.proofs.Sets.{then}
-use Rattle.summary.specs.Numbers.{classFields, classNumbers, rowNumbers, edgeNumbers, headNumbers, summaryNumbers, numbers, Parts}
+use Rattle.summary.specs.Numbers.{classFields, classNumbers, rowNumbers, edgeNumbers, headOf, headNumbers, summaryNumbers, numbers, Parts}
 
 -- ---- packing
 
@@ -46,7 +46,7 @@ unfolding pack edgeNumbers putLink put2
 edge-bytes a = refl
 
 head-bytes : (S : Summary) → pack put2 (headNumbers S) ≡ summaryHead S
-unfolding pack headNumbers summaryHead put2
+unfolding pack headNumbers headOf summaryHead put2
 head-bytes S = refl
 
 pub numbers-bytes : (S : Summary) → pack put2 (summaryNumbers S) ≡ summaryBytes S
@@ -97,3 +97,29 @@ module _ (d head classes : List ℕ) (c : ℕ) (rows : List ℕ) (r : ℕ) (edge
 
       regroup : (a b c d e : List ℕ) → (((a ++ b) ++ c) ++ d) ++ e ≡ a ++ (b ++ (c ++ (d ++ e)))
       regroup a b c d e = simp append-assoc
+
+-- ---- the parts of a summary
+
+-- five parts that hold the numbers of a summary are its bytes, and so long is the file
+pub parts-bytes : (S : Summary) (head classes : List ℕ) (c : ℕ) (rows : List ℕ) (r : ℕ) (edges : List ℕ) (e : ℕ) (map : List ℕ) (n : ℕ) →
+    take 12 head ≡ headNumbers S → take (classFields * c) classes ≡ pack classNumbers (S .classes) → take (4 * r) rows ≡ pack rowNumbers (S .rows) →
+    take (3 * e) edges ≡ pack edgeNumbers (S .links) → take n map ≡ S .map → pack put2 (numbers head classes c rows r edges e map n) ≡ summaryBytes S
+unfolding numbers summaryNumbers
+parts-bytes S head classes c rows r edges e map n h k o l m = rw (h, k, o, l, m) (numbers-bytes S)
+
+size-records : {A : Type 0} (f : A → List ℕ) (w : ℕ) → ((a : A) → length (f a) ≡ w) → (s : List A) → length (pack f s) ≡ w * length s
+unfolding pack
+size-records f w size [] = omega arith
+size-records f w size (a ∷ s) = omega (arith, length-append (f a) (pack f s), size a, size-records f w size s)
+
+pub bytes-long : (S : Summary) → length (summaryBytes S) ≡ summarySize (length (S .classes)) (length (S .rows)) (length (S .links)) (length (S .map))
+unfolding summaryNumbers headNumbers headOf classNumbers rowNumbers edgeNumbers
+bytes-long S =
+    let C = pack classNumbers (S .classes) in
+    let O = pack rowNumbers (S .rows) in
+    let E = pack edgeNumbers (S .links) in
+    let c = size-records classNumbers classFields (λ a. refl) (S .classes) in
+    let r = size-records rowNumbers 4 (λ a. refl) (S .rows) in
+    let e = size-records edgeNumbers 3 (λ a. refl) (S .links) in
+    ap length (sym (numbers-bytes S))
+    ∙ omega (arith, size-numbers (summaryNumbers S), length-append C (O ++ (E ++ S .map)), length-append O (E ++ S .map), length-append E (S .map), c, r, e)

@@ -23,12 +23,13 @@ rowNumbers r = r .class ∷ way (r .direction) (r .label) ∷ r .group ∷ r .co
 unfoldable pub edgeNumbers : Link → List ℕ
 edgeNumbers a = a .source ∷ a .label ∷ a .target ∷ []
 
+-- "Header of 24 bytes: i, µ, ν, class count c, group count g, row count r, class-link count e, item count n, then four offsets"
+unfoldable pub headOf : ℕ → ℕ → ℕ → ℕ → ℕ → ℕ → ℕ → ℕ → List ℕ
+headOf i µ ν c g r e n = i ∷ µ ∷ ν ∷ c ∷ g ∷ r ∷ e ∷ n ∷ 24 ∷ rowsOffset c ∷ edgesOffset c r ∷ mapOffset c r e ∷ []
+
 unfoldable pub headNumbers : Summary → List ℕ
 headNumbers S =
-    let c = length (S .classes) in
-    let r = length (S .rows) in
-    let e = length (S .links) in
-    S .level ∷ S .nearCap ∷ S .classCap ∷ c ∷ S .groups ∷ r ∷ e ∷ length (S .map) ∷ 24 ∷ rowsOffset c ∷ edgesOffset c r ∷ mapOffset c r e ∷ []
+    headOf (S .level) (S .nearCap) (S .classCap) (length (S .classes)) (S .groups) (length (S .rows)) (length (S .links)) (length (S .map))
 
 -- the numbers of a summary; `numbers-bytes` says that the bytes of these are the summary's
 unfoldable pub summaryNumbers : Summary → List ℕ

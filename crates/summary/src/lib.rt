@@ -5,7 +5,7 @@ ghost use Prim.Native.Nat.{_+_, _*_, _≤_};
 ghost use lib.ListN.{length};
 ghost use lib.Seq.{sets};
 ghost use Rattle.files.specs.Bytes.{put2, pack};
-ghost use Rattle.summary.specs.Numbers.{Parts, numbers};
+ghost use Rattle.summary.specs.Numbers.{Parts, numbers, headOf};
 
 // How many numbers a class record, a row and a class link have.
 pub const CLASS: usize = 4;
@@ -39,4 +39,37 @@ pub fn put_parts(
     wire::put_numbers(out, at, edges, EDGE * e);
     at += 2 * EDGE * e;
     wire::put_numbers(out, at, map, n);
+}
+
+// What the header says besides the offsets.
+pub struct Counts {
+    pub classes: u16,
+    pub groups: u16,
+    pub rows: u16,
+    pub edges: u16,
+    pub items: u16,
+}
+
+// "Header of 24 bytes: i, µ, ν, class count c, group count g, row count r, class-link count e, item count n, then four offsets".
+pub fn head(level: u16, near: u16, class: u16, of: Counts) -> [u16; 12]
+    requires { ⌜ (of .classes ≤ 1024) × (of .rows ≤ 4096) × (of .edges ≤ 2048) ⌝ }
+    ensures { λ r. ⌜ r ≡ headOf level near class (of .classes) (of .groups) (of .rows) (of .edges) (of .items) ⌝ }
+{
+    let rows_at = 24 + 8 * of.classes;
+    let edges_at = rows_at + 8 * of.rows;
+    let map_at = edges_at + 6 * of.edges;
+    [
+        level,
+        near,
+        class,
+        of.classes,
+        of.groups,
+        of.rows,
+        of.edges,
+        of.items,
+        24,
+        rows_at,
+        edges_at,
+        map_at,
+    ]
 }
