@@ -1,0 +1,242 @@
+// The class lists of a register, level by level, and the capped rows of its items. A step reads the finished list of one level and writes
+// the list of the next to another array: sorted keys of the links, rows, numbers by signature. Leans on register, radix, rows and signature.
+use meaning::Direction;
+use names::Item;
+ghost use mathlib.Core.Path.{_≡_};
+ghost use mathlib.Core.List.{_++_};
+ghost use Prim.Native.Nat.{ℕ, _+_, _-_, _*_, _<_, _≤_};
+ghost use lib.ListN.{length, drop, take, getD};
+ghost use Rattle.meaning.specs.Count.{tab, join};
+ghost use Rattle.meaning.specs.Register.{marksOf, linkOf};
+ghost use Rattle.meaning.specs.WellFormed.{way as wayNumber};
+ghost use Rattle.meaning.specs.Level.{number, alikeNext, classList, classCount};
+ghost use Rattle.files.specs.RegisterFile.{registerIn};
+ghost use Rattle.register.specs.Told.{OfLink};
+ghost use Rattle.alike.specs.Step.{OfItems, OfRegister, OfClasses, Room, keyOf, Writes, itemRows, itemStart, RowsStand, Reached};
+
+// "direction times 16 plus label (out 0, in 1)".
+fn way_number(way: Direction, label: u8) -> u64
+    requires { ⌜ label < 16 ⌝ }
+    ensures { λ r. ⌜ (r ≡ wayNumber way label) × (r < 32) ⌝ }
+{
+    match way {
+        Direction::Outgoing => label as u64,
+        Direction::Incoming => 16 + label as u64,
+    }
+}
+
+// Link k as it is seen that way, in one number: the item, the way with its label, and the class to which it leads.
+fn key(reg: &[u8], n: usize, k: usize, cs: &[u16], way: Direction) -> u64
+    requires { ⌜ OfLink (now reg) n k × OfClasses (now cs) n ⌝ }
+    ensures { λ r. ⌜ r ≡ keyOf way (now (cs .entry)) (linkOf (registerIn (now (reg .entry))) k) ⌝ }
+{
+    let near = register::near(reg, n, k, way).index() as u64;
+    let label = way_number(way, register::label(reg, n, k));
+    let class = cs[register::far(reg, n, k, way).index()] as u64;
+    near * 32768 + label * 1024 + class
+}
+
+// The keys of all links as seen that way, from a place on.
+fn put_keys(
+    reg: &[u8],
+    n: usize,
+    m: usize,
+    cs: &[u16],
+    way: Direction,
+    from: usize,
+    keys: &mut [u64],
+)
+    requires { ⌜ OfRegister (now reg) n m × OfClasses (now cs) n × (from ≤ m) × (from + m ≤ length (now keys)) ⌝ }
+    ensures { λ r. ⌜ Writes (now (keys .entry)) (now (keys .exit)) from m (λ k. keyOf way (now (cs .entry)) (linkOf (registerIn (now (reg .entry))) k)) ⌝ }
+{
+    let mut k = 0;
+    while k < m {
+        keys[from + k] = key(reg, n, k, cs, way);
+        k += 1;
+    }
+}
+
+// The rows of all items against a class list: those of item x stand in rows from starts[x] on, and end where those of x + 1 start.
+// keys and other are room to work in.
+pub fn item_rows(
+    reg: &[u8],
+    n: usize,
+    m: usize,
+    mu: u8,
+    cs: &[u16],
+    rows: &mut [u64],
+    starts: &mut [u16],
+    keys: &mut [u64],
+    other: &mut [u64],
+)
+    requires { ⌜ OfRegister (now reg) n m × OfClasses (now cs) n × (mu ≤ 7)
+        × (2 * m ≤ length (now rows)) × (n < length (now starts)) × (2 * m ≤ length (now keys)) × (2 * m ≤ length (now other)) ⌝ }
+    ensures { λ r. ⌜ (now (rows .exit) ≡ join (itemRows (registerIn (now (reg .entry))) mu (take n (now (cs .entry)))) n
+        ++ drop (itemStart (registerIn (now (reg .entry))) mu (take n (now (cs .entry))) n) (now (rows .entry)))
+        × (now (starts .exit) ≡ tab (itemStart (registerIn (now (reg .entry))) mu (take n (now (cs .entry)))) (n + 1) ++ drop (n + 1) (now (starts .entry))) ⌝ }
+{
+    put_keys(reg, n, m, cs, Direction::Outgoing, 0, keys);
+    put_keys(reg, n, m, cs, Direction::Incoming, m, keys);
+    radix::sort(keys, 2 * m, other);
+    rows::put_rows(keys, 2 * m, n, mu, rows, starts);
+}
+
+// "alike at level j + 1 when they are alike at level j and, for each direction, label and level-j class, they have equal numbers of
+// neighbours in that class, capped at µ": from the class list of level j that of level j + 1, and how many classes it has. The rows that
+// were compared stay in rows and starts; keys, other and firsts are room to work in.
+pub fn step(
+    reg: &[u8],
+    n: usize,
+    m: usize,
+    mu: u8,
+    cs: &[u16],
+    out: &mut [u16],
+    rows: &mut [u64],
+    starts: &mut [u16],
+    keys: &mut [u64],
+    other: &mut [u64],
+    firsts: &mut [u16],
+) -> usize
+    requires { ⌜ OfRegister (now reg) n m × OfClasses (now cs) n × (mu ≤ 7) × (n ≤ length (now out))
+        × Room n m (length (now rows)) (length (now starts)) (length (now keys)) (length (now other)) (length (now firsts)) ⌝ }
+    ensures { λ r. ⌜ (r ≡ classCount (tab (number (alikeNext (registerIn (now (reg .entry))) mu (take n (now (cs .entry))))) n))
+        × (now (out .exit) ≡ tab (number (alikeNext (registerIn (now (reg .entry))) mu (take n (now (cs .entry))))) n ++ drop n (now (out .entry)))
+        × RowsStand (registerIn (now (reg .entry))) mu (take n (now (cs .entry))) n (now (starts .exit)) (now (rows .exit)) ⌝ }
+{
+    item_rows(reg, n, m, mu, cs, rows, starts, keys, other);
+    signature::number_by_signature(cs, starts, rows, n, keys, other, firsts, out)
+}
+
+// The marks fields of all items.
+fn read_marks(reg: &[u8], n: usize, marks: &mut [u32])
+    requires { ⌜ OfItems (now reg) n × (n ≤ length (now marks)) ⌝ }
+    ensures { λ r. ⌜ ((x : ℕ) → x < n → getD (now (marks .exit)) x 0 ≡ marksOf (registerIn (now (reg .entry))) x) ⌝ }
+{
+    let mut x = 0;
+    while x < n {
+        marks[x] = register::marks(reg, Item(x as u16));
+        x += 1;
+    }
+}
+
+// "Two items are alike at level 0 when their marks fields are equal": the class list of level 0, and how many classes it has.
+// keys, other and firsts are room to work in.
+fn by_marks(
+    reg: &[u8],
+    n: usize,
+    out: &mut [u16],
+    keys: &mut [u64],
+    other: &mut [u64],
+    firsts: &mut [u16],
+) -> usize
+    requires { ⌜ OfItems (now reg) n × (n ≤ length (now out)) × (n ≤ length (now keys)) × (n ≤ length (now other)) × (n ≤ length (now firsts)) ⌝ }
+    ensures { λ r. ⌜ ((µ : ℕ) → (r ≡ classCount (classList (registerIn (now (reg .entry))) µ 0))
+        × (now (out .exit) ≡ classList (registerIn (now (reg .entry))) µ 0 ++ drop n (now (out .entry)))) ⌝ }
+{
+    let mut marks = [0u32; 1024];
+    read_marks(reg, n, &mut marks);
+    signature::number_by_marks(&marks, n, keys, other, firsts, out)
+}
+
+// The classes of n items copied.
+fn copy_classes(from: &[u16], n: usize, to: &mut [u16])
+    requires { ⌜ (n ≤ length (now from)) × (n ≤ length (now to)) ⌝ }
+    ensures { λ r. ⌜ now (to .exit) ≡ take n (now (from .entry)) ++ drop n (now (to .entry)) ⌝ }
+{
+    let mut x = 0;
+    while x < n {
+        to[x] = from[x];
+        x += 1;
+    }
+}
+
+// "The classes of a summary are those of level i; its groups are those of level i − 1": how many there are of each.
+pub struct Counts {
+    pub groups: usize,
+    pub classes: usize,
+}
+
+// From the class list of level 0, in upper, that of level i; and in lower that of the level before. Each step reads the one, finished,
+// and writes the other.
+fn refine(
+    reg: &[u8],
+    n: usize,
+    m: usize,
+    mu: u8,
+    i: usize,
+    marked: usize,
+    lower: &mut [u16],
+    upper: &mut [u16],
+    rows: &mut [u64],
+    starts: &mut [u16],
+    keys: &mut [u64],
+    other: &mut [u64],
+    firsts: &mut [u16],
+) -> Counts
+    requires { ⌜ OfRegister (now reg) n m × (mu ≤ 7) × (1 ≤ i) × (n ≤ length (now lower)) × (n ≤ length (now upper))
+        × Room n m (length (now rows)) (length (now starts)) (length (now keys)) (length (now other)) (length (now firsts))
+        × (take n (now upper) ≡ classList (registerIn (now reg)) mu 0) × (marked ≡ classCount (classList (registerIn (now reg)) mu 0)) ⌝ }
+    ensures { λ r. ⌜ Reached (registerIn (now (reg .entry))) mu n i (now (lower .entry)) (now (lower .exit)) (now (upper .entry)) (now (upper .exit))
+        (r .groups) (r .classes) (now (starts .exit)) (now (rows .exit)) ⌝ }
+{
+    let mut groups = marked;
+    let mut classes = marked;
+    let mut j = 0;
+    while j < i {
+        copy_classes(upper, n, lower);
+        groups = classes;
+        classes = step(
+            reg,
+            n,
+            m,
+            mu,
+            lower,
+            upper,
+            rows,
+            starts,
+            keys,
+            other,
+            firsts,
+        );
+        j += 1;
+    }
+    Counts { groups, classes }
+}
+
+// The class lists of level i − 1, in lower, and of level i, in upper, with their class counts; and the rows of the items against the
+// former, in rows and starts.
+pub fn levels(
+    reg: &[u8],
+    n: usize,
+    m: usize,
+    mu: u8,
+    i: usize,
+    lower: &mut [u16],
+    upper: &mut [u16],
+    rows: &mut [u64],
+    starts: &mut [u16],
+) -> Counts
+    requires { ⌜ OfRegister (now reg) n m × (mu ≤ 7) × (1 ≤ i) × (n ≤ length (now lower)) × (n ≤ length (now upper)) × (2 * m ≤ length (now rows)) × (n < length (now starts)) ⌝ }
+    ensures { λ r. ⌜ Reached (registerIn (now (reg .entry))) mu n i (now (lower .entry)) (now (lower .exit)) (now (upper .entry)) (now (upper .exit))
+        (r .groups) (r .classes) (now (starts .exit)) (now (rows .exit)) ⌝ }
+{
+    let mut keys = [0u64; 4096];
+    let mut other = [0u64; 4096];
+    let mut firsts = [0u16; 1024];
+    let marked = by_marks(reg, n, upper, &mut keys, &mut other, &mut firsts);
+    refine(
+        reg,
+        n,
+        m,
+        mu,
+        i,
+        marked,
+        lower,
+        upper,
+        rows,
+        starts,
+        &mut keys,
+        &mut other,
+        &mut firsts,
+    )
+}

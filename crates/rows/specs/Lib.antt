@@ -1,0 +1,2 @@
+-- The rows of an item, said of keys.
+pub mod Rows
