@@ -5,23 +5,12 @@ use mathlib.Core.Path.{_≡_}
 use mathlib.Core.List.{List, [], _∷_, _++_}
 use lib.ListN.{getD, length, take, drop}
 use Rattle.meaning.specs.Count.{tab, join}
-use Rattle.meaning.specs.Register.{Link, Register, items, near, far}
+use Rattle.meaning.specs.Register.{Link, Register, near, far}
 use Rattle.meaning.specs.declared.Direction.{Direction}
 use Rattle.meaning.specs.WellFormed.{way}
 use Rattle.meaning.specs.Summary.{Row}
 use Rattle.meaning.specs.Level.{classList, classCount}
 use Rattle.meaning.specs.Condense.{rowsAt, by}
-use Rattle.files.specs.RegisterFile.{registerIn, fault}
-
--- b is an accepted register of n items; and of m links
-pub record OfItems (b : List ℕ) (n : ℕ) : Type 0 where
-  pub fine : fault b ≡ 0
-  pub items-are : n ≡ items (registerIn b)
-
-pub record OfRegister (b : List ℕ) (n m : ℕ) : Type 0 where
-  pub fine : fault b ≡ 0
-  pub items-are : n ≡ items (registerIn b)
-  pub links-are : m ≡ length (registerIn b .links)
 
 -- cs begins with the class numbers of n items
 pub record OfClasses (cs : List ℕ) (n : ℕ) : Type 0 where

@@ -8,7 +8,7 @@ ghost use mathlib.Core.Path.{_≡_};
 ghost use Rattle.files.specs.QuestionFile.{question};
 ghost use Rattle.files.specs.Refusals.{numberOf};
 ghost use Rattle.files.specs.Answers.{word, number, returned, code, askTree, askRegister};
-ghost use Rattle.table.specs.Row.{OfRegister};
+ghost use Rattle.register.specs.Told.{OfRegister};
 ghost use Rattle.inquiry.specs.Known.{Whole};
 ghost use Rattle.hestovane.specs.Told.{told};
 

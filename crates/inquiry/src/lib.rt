@@ -17,7 +17,8 @@ ghost use Rattle.meaning.specs.Question.{shows};
 ghost use Rattle.files.specs.RegisterFile.{registerIn, fault};
 ghost use Rattle.files.specs.QuestionFile.{question};
 ghost use Rattle.question.specs.Read.{entryAt};
-ghost use Rattle.table.specs.Row.{Room, row, Writes, OfRegister};
+ghost use Rattle.table.specs.Row.{Room, row, Writes};
+ghost use Rattle.register.specs.Told.{OfRegister};
 ghost use Rattle.inquiry.specs.Known.{Whole, Known, Fills, pairKind, asked, Said};
 
 // Whether every entry so far has its row.

@@ -14,6 +14,16 @@ abbrev pub told : Judged → Verdict
 told (Accepted n m) = accepted n m
 told (Refused r) = refused (numberOf r)
 
+-- b is an accepted register of n items; of n items and m links
+pub record OfItems (b : List ℕ) (n : ℕ) : Type 0 where
+  pub fine : fault b ≡ 0
+  pub items-are : n ≡ items (registerIn b)
+
+pub record OfRegister (b : List ℕ) (n m : ℕ) : Type 0 where
+  pub fine : fault b ≡ 0
+  pub items-are : n ≡ items (registerIn b)
+  pub links-are : m ≡ length (registerIn b .links)
+
 -- b is an accepted register of n items that has a link k
 pub record OfLink (b : List ℕ) (n k : ℕ) : Type 0 where
   pub fine : fault b ≡ 0

@@ -17,7 +17,8 @@ use Rattle.meaning.specs.Register.{Link, Register, linkOf, near, far, leads, ne
 use Rattle.meaning.specs.declared.Direction.{Direction}
 use Rattle.files.specs.RegisterFile.{registerIn}
 use Rattle.promise.proofs.Access.{items-at, links-at, readable}
-use Rattle.table.specs.Row.{row, Writes, OfRegister, Counts, Below, Adds}
+use Rattle.table.specs.Row.{row, Writes, Counts, Below, Adds}
+use Rattle.register.specs.Told.{OfRegister}
 
 -- u is t with the first x items of row j written
 pub record Part (t u : List Bool) (j : ℕ) (p : ℕ → Bool) (x : ℕ) : Type 0 where

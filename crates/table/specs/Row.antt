@@ -4,9 +4,9 @@ use mathlib.Core.Path.{_≡_}
 use mathlib.Core.Bool.{Bool, true, false, cond, _&&_, _||_}
 use mathlib.Core.List.{List}
 use lib.ListN.{length, getD}
-use Rattle.meaning.specs.Register.{items, neighbours}
+use Rattle.meaning.specs.Register.{neighbours}
 use Rattle.meaning.specs.declared.Direction.{Direction}
-use Rattle.files.specs.RegisterFile.{registerIn, fault}
+use Rattle.files.specs.RegisterFile.{registerIn}
 
 -- what row j says at item x
 abbrev pub row : List Bool → ℕ → ℕ → Bool
@@ -27,12 +27,6 @@ pub record Writes (t u : List Bool) (n j : ℕ) (p : ℕ → Bool) : Type 0 wher
 abbrev pub paired : Bool → Bool → Bool → Bool
 paired true a b = a || b
 paired false a b = a && b
-
--- b is an accepted register of n items and m links
-pub record OfRegister (b : List ℕ) (n m : ℕ) : Type 0 where
-  pub fine : fault b ≡ 0
-  pub items-are : n ≡ items (registerIn b)
-  pub links-are : m ≡ length (registerIn b .links)
 
 -- c has 1,024 counts and counts, for each of n items, its neighbours that way and by that label that pass
 pub record Counts (c : List ℕ) (b : List ℕ) (n : ℕ) (d : Direction) (l : ℕ) (p : ℕ → Bool) : Type 0 where

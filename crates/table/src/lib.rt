@@ -8,8 +8,8 @@ ghost use lib.Dec.{leb};
 ghost use lib.ListN.{length, getD};
 ghost use Rattle.meaning.specs.Register.{leads, linkOf};
 ghost use Rattle.files.specs.RegisterFile.{registerIn};
-ghost use Rattle.register.specs.Told.{OfLink};
-ghost use Rattle.table.specs.Row.{Room, row, Writes, paired, OfRegister, Counts, Below, Adds};
+ghost use Rattle.register.specs.Told.{OfLink, OfRegister};
+ghost use Rattle.table.specs.Row.{Room, row, Writes, paired, Counts, Below, Adds};
 
 // True at every item.
 pub fn put_true(table: &mut [bool], n: usize, j: usize)

@@ -7,7 +7,6 @@ use native.Mathlib.Numerals.{add-one}
 use lib.ListN.{length}
 use Rattle.files.specs.RegisterFile.{registerIn}
 use Rattle.alike.proofs.Keys.{of-limits, of-fine}
-use Rattle.alike.proofs.ByLevel.{Going, going-first, copied, going-next, of-level}
 use Rattle.alike.proofs.refine.Statement.{statement}
 use Rattle.alike.proofs.refine.Tie as tie
 

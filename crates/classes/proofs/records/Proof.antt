@@ -1,6 +1,5 @@
 -- The items below x are entered; once all are, the records are the summary's.
-use mathlib.Core.Path.{subst}
-use mathlib.Core.Path.{_≡_}
+use mathlib.Core.Path.{subst, _≡_}
 use Prim.Native.Nat.{ℕ, _-_, _≤_, _<_}
 use native.Mathlib.Omega.{arith}
 use lib.ListN.{length, take, length-replicate}

@@ -1,6 +1,5 @@
 -- Each item of the row is made of the two rows behind it.
-use mathlib.Core.Path.{ap₂}
-use mathlib.Core.Path.{_∙_}
+use mathlib.Core.Path.{ap₂, _∙_}
 use mathlib.Core.Bool.{Bool}
 use Prim.Native.Nat.{_+_, _-_, _≤_}
 use native.Mathlib.Omega.{arith}
