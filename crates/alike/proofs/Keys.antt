@@ -28,15 +28,7 @@ use Rattle.alike.proofs.Words.{way-below}
 
 -- ---- what an accepted register has
 
-pub few-items : (b : List ℕ) (n : ℕ) → OfItems b n → n ≤ 1024
-few-items b n o = omega (arith, readable b (o .fine) .few, o .items-are, items-at b)
-
 module _ (b : List ℕ) (n m : ℕ) (o : OfRegister b n m) where
-  pub of-limits : (n ≤ 1024) × (m ≤ 2048)
-  of-limits =
-      let r = readable b (o .fine) in
-      (omega (arith, r .few, o .items-are, items-at b), omega (arith, r .few-links, o .links-are, links-at b))
-
   link-fine : (k : ℕ) → k < m → LinkFine (registerIn b) (linkOf (registerIn b) k)
   link-fine k h = readable b (o .fine) .ends k (omega (arith, o .links-are, links-at b))
 

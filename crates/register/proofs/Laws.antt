@@ -16,7 +16,17 @@ use Rattle.files.specs.Bytes.{num2}
 use Rattle.files.specs.RegisterFile.{linksOffset, registerSize, linkAt, registerIn, headed, linksFine, fault, accepted, refused, verdictBy, verdict}
 use Rattle.theory.proofs.CountLaws.{and-inv, past, all-and, each-tab, ascends-tab}
 use Rattle.promise.proofs.Access.{items-at, links-at, link-at, readable}
-use Rattle.register.specs.Told.{OfLink}
+use Rattle.register.specs.Told.{OfItems, OfRegister, OfLink}
+
+-- ---- what an accepted register has
+
+pub few-items : (b : List ℕ) (n : ℕ) → OfItems b n → n ≤ 1024
+few-items b n o = omega (arith, readable b (o .fine) .few, o .items-are, items-at b)
+
+pub limits : (b : List ℕ) (n m : ℕ) → OfRegister b n m → (n ≤ 1024) × (m ≤ 2048)
+limits b n m o =
+    let r = readable b (o .fine) in
+    (omega (arith, r .few, o .items-are, items-at b), omega (arith, r .few-links, o .links-are, links-at b))
 
 -- ---- the header
 

@@ -102,10 +102,3 @@ module _ (R : Register) (d : Direction) (l : ℕ) (p : ℕ → Bool) where
   pub tallied-all : (b c : List ℕ) (n m : ℕ) → R ≡ registerIn b → n ≤ 1024 → m ≡ length (R .links) → Tallied R d l p c m → Counts c b n d l p
   tallied-all b c n m e h f t =
       record { long = t .long; counted = λ x u. t .so-far x (omega arith) ∙ rw f (sym (neighbours-places R d l p x)) ∙ ap (λ (S : Register). neighbours S d l p x) e }
-
--- an accepted register has at most 1,024 items and 2,048 links
-pub few-items : (b : List ℕ) (n m : ℕ) → OfRegister b n m → n ≤ 1024
-few-items b n m r = omega (arith, r .items-are, items-at b, readable b (r .fine) .few)
-
-pub few-links : (b : List ℕ) (n m : ℕ) → OfRegister b n m → m ≤ 2048
-few-links b n m r = omega (arith, r .links-are, links-at b, readable b (r .fine) .few-links)

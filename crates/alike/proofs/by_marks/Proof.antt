@@ -6,7 +6,7 @@ use Prim.Native.Nat.{ℕ}
 use lib.ListN.{drop}
 use Rattle.meaning.specs.Level.{classCount}
 use Rattle.files.specs.RegisterFile.{registerIn}
-use Rattle.alike.proofs.Keys.{few-items}
+use Rattle.register.proofs.Laws.{few-items}
 use Rattle.alike.proofs.ByLevel.{marked}
 use borrow.Author.Needs.{needs}
 use Rattle.alike.proofs.by_marks.Statement.{statement}

@@ -5,7 +5,7 @@ use mathlib.Core.List.{List, _++_}
 use Prim.Native.Nat.{ℕ, _+_, _*_}
 use lib.ListN.{drop}
 use Rattle.order.proofs.Laws.{sorted-up}
-use Rattle.alike.proofs.Keys.{of-limits}
+use Rattle.register.proofs.Laws.{limits}
 use Rattle.alike.proofs.Laws.{rows-written, starts-written}
 use borrow.Author.Needs.{needs}
 use Rattle.alike.proofs.item_rows.Statement.{statement}
@@ -24,7 +24,7 @@ sort-requires : tie.Need-sort-requires
 sort-requires c κs =
     let s = c .before .before .before .before .before .before .before .before .before .before .before .before .before .before .before .before in
     let a = s .args in
-    let few = of-limits (a .reg .now) (a .n) (a .m) (s .pre .0) in
+    let few = limits (a .reg .now) (a .n) (a .m) (s .pre .0) in
     (omega (arith, s .pre), omega (arith, s .pre), omega arith)
 
 mul-put-rows : tie.Need-mul-put-rows
@@ -35,7 +35,7 @@ put-rows-requires c κs =
     let at-sort = c .before .before .before .before .before .before .before in
     let s = at-sort .before .before .before .before .before .before .before .before .before .before .before .before .before .before .before .before .before in
     let a = s .args in
-    let few = of-limits (a .reg .now) (a .n) (a .m) (s .pre .0) in
+    let few = limits (a .reg .now) (a .n) (a .m) (s .pre .0) in
     (omega (arith, s .pre), omega arith, omega arith, omega (arith, s .pre), omega (arith, s .pre), omega (arith, s .pre), sorted-up _ _ (2 * a .m) (at-sort .sort .ensures))
 
 same-length : tie.Need-same-length

@@ -1,7 +1,7 @@
 -- Two calls: level 0, then the steps.
 use native.Mathlib.Omega.{arith}
 use Rattle.files.specs.RegisterFile.{registerIn}
-use Rattle.alike.proofs.Keys.{of-limits}
+use Rattle.register.proofs.Laws.{limits}
 use Rattle.alike.proofs.ByLevel.{take-level, reached-from}
 use borrow.Author.Needs.{needs}
 use Rattle.alike.proofs.levels.Statement.{statement}
@@ -20,7 +20,7 @@ by-marks-requires : tie.Need-by-marks-requires
 by-marks-requires c κs =
     let s = c .before .before .before .before .before .before .before .before .before in
     let o = s .pre .0 in
-    let few = of-limits _ _ _ o in
+    let few = limits _ _ _ o in
     (record { fine = o .fine; items-are = o .items-are }, omega (arith, s .pre), omega (arith, few), omega (arith, few), omega (arith, few))
 
 slice-aggregate-refine : tie.Need-slice-aggregate-refine
@@ -38,7 +38,7 @@ refine-requires c κs =
     let s = at-by-marks .before .before .before .before .before .before .before .before .before .before in
     let a = s .args in
     let o = s .pre .0 in
-    let few = of-limits (a .reg .now) (a .n) (a .m) o in
+    let few = limits (a .reg .now) (a .n) (a .m) o in
     let k = at-by-marks .by-marks .ensures (a .mu) in (
       o,
       omega (arith, s .pre),

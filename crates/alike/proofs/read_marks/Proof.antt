@@ -5,7 +5,7 @@ use Prim.Native.Nat.{ℕ, _-_, _≤_, _<_}
 use lib.ListN.{length, getD, length-set}
 use Rattle.meaning.specs.Register.{marksOf}
 use Rattle.files.specs.RegisterFile.{registerIn}
-use Rattle.alike.proofs.Keys.{few-items}
+use Rattle.register.proofs.Laws.{few-items}
 use Rattle.order.proofs.Front.{filled-next}
 use borrow.Author.Needs.{needs}
 use Rattle.alike.proofs.read_marks.Statement.{statement}

@@ -6,7 +6,8 @@ use Prim.Native.Nat.{_+_, _-_, _≤_}
 use native.Mathlib.Numerals.{add-one}
 use lib.ListN.{length}
 use Rattle.files.specs.RegisterFile.{registerIn}
-use Rattle.alike.proofs.Keys.{of-limits, of-fine}
+use Rattle.register.proofs.Laws.{limits}
+use Rattle.alike.proofs.Keys.{of-fine}
 use Rattle.alike.proofs.refine.Statement.{statement}
 use Rattle.alike.proofs.refine.Tie as tie
 
@@ -37,7 +38,7 @@ step-requires c κs =
     let a = s .args in
     let l = at-loop .loop in
     let o = s .pre .0 in
-    let few = of-limits (a .reg .now) (a .n) (a .m) o in
+    let few = limits (a .reg .now) (a .n) (a .m) o in
     let room = s .pre .5 in (
       o,
       of-level (registerIn (a .reg .now)) (a .mu) (a .n) (o .items-are) (l .j) _ (few .0) (omega (arith, s .pre))

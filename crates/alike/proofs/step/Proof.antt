@@ -7,7 +7,8 @@ use lib.ListN.{drop, take}
 use lib.Seq.{getD-take}
 use Rattle.meaning.specs.Level.{classCount}
 use Rattle.files.specs.RegisterFile.{registerIn}
-use Rattle.alike.proofs.Keys.{of-limits, list-few}
+use Rattle.register.proofs.Laws.{limits}
+use Rattle.alike.proofs.Keys.{list-few}
 use Rattle.alike.proofs.Laws.{rows-stand, rows-laid, step-numbers}
 use borrow.Author.Needs.{needs}
 use Rattle.alike.proofs.step.Statement.{statement}
@@ -20,7 +21,7 @@ number-by-signature-requires : tie.Need-number-by-signature-requires
 number-by-signature-requires c κs =
     let s = c .before .before .before .before .before .before .before .before .before .before .before .before .before .before .before .before .before .before .before .before .before .before .before .before .before .before .before in
     let a = s .args in
-    let few = of-limits (a .reg .now) (a .n) (a .m) (s .pre .0) in
+    let few = limits (a .reg .now) (a .n) (a .m) (s .pre .0) in
     let r = c .before .before .before .before .before .before .before .before .before .before .before .before .before .before .item-rows .ensures in
     let room = s .pre .4 in (
       rows-laid (registerIn (a .reg .now)) (a .mu) (take (a .n) (a .cs .now)) (a .n) _ _ _ _ (r .1) (r .0) (a .cs .now) (few .0) (s .pre .1 .long) (omega (arith, room .for-starts)),

@@ -1,5 +1,5 @@
 -- From the last entry to the first: the rows from j on are known.
-use Rattle.table.proofs.Laws.{few-items}
+use Rattle.register.proofs.Laws.{limits}
 use mathlib.Core.Path.{_≡_, refl}
 use Prim.Native.Nat.{_+_, _-_, _/_, _≤_}
 use native.Mathlib.Omega.{arith}
@@ -30,7 +30,7 @@ put-entry-requires c κs =
     let few = few-entries _ (s .pre .2) in
     let i = l .loop .inv in
     let e : l .loop .j ≡ l .loop .j - 1 + 1 = omega arith in (
-      record { few = few-items _ _ _ (s .pre .1); below = omega (arith, few); long = omega (arith, i .1) },
+      record { few = limits _ _ _ (s .pre .1) .0; below = omega (arith, few); long = omega (arith, i .1) },
       s .pre .1,
       s .pre .2,
       omega arith,

@@ -4,7 +4,8 @@ use Prim.Native.Nat.{_-_, _≤_}
 use native.Mathlib.Omega.{arith}
 use Rattle.files.specs.RegisterFile.{registerIn}
 use Rattle.table.specs.Row.{row}
-use Rattle.table.proofs.Laws.{Tallied, tallied-none, tallied-next, tallied-small, tallied-all, few-links}
+use Rattle.table.proofs.Laws.{Tallied, tallied-none, tallied-next, tallied-small, tallied-all}
+use Rattle.register.proofs.Laws.{limits}
 use Rattle.table.proofs.count.Statement.{statement}
 use Rattle.table.proofs.count.Tie as tie
 
@@ -25,7 +26,7 @@ count-link-requires c κs =
     let l = c .before .before in
     let s = l .before .before .before in
     let r = s .pre .1 in
-    let m = few-links _ _ _ r in
+    let m = limits _ _ _ r .1 in
     (s .pre .0, record { fine = r .fine; items-are = r .items-are; link-is = omega (arith, r .links-are) }, tallied-small _ _ _ _ _ _ (omega arith) (l .loop .inv .1))
 
 add-k : tie.Need-add-k Inv-loop μ-loop
