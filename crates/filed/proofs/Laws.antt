@@ -7,7 +7,7 @@ use Prim.Native.Nat.{ℕ, zero, suc, _+_, _-_, _*_, _≤_, _<_}
 use native.Mathlib.Omega.{arith}
 use borrow.Author.Tests.{eq-eqb, ltb-true, ltb-false}
 use lib.Dec.{eqb, ltb}
-use lib.ListN.{length, getD, set, take, drop}
+use lib.ListN.{length, getD, set, take, drop, length-take}
 use lib.Seq.{sets, sets-eq, take-at, getD-take, ext-getD}
 use Rattle.meaning.specs.Count.{tab, join}
 use Rattle.meaning.specs.Register.{Register}
@@ -21,7 +21,7 @@ use Rattle.wire.proofs.Sets.{then-record, length-records, pack-tab}
 use Rattle.summary.specs.Numbers.{rowNumbers}
 use Rattle.summary.proofs.Laws.{pack-append}
 use Rattle.rows.proofs.Joined.{joined-next, joined-fits}
-use Rattle.alike.specs.Step.{wordOf, itemRows, itemStart}
+use Rattle.alike.specs.Step.{wordOf, itemRows, itemStart, RowsStand}
 use Rattle.alike.proofs.Words.{RowFits, way-below, word-fields, rows-fit}
 use Rattle.alike.proofs.Laws.{row-count, row-word}
 use Rattle.filed.specs.Copied.{wordNumbers, copied, Words, classRows, Given}
@@ -67,11 +67,23 @@ places d s =
     let l = length-tab (λ j. getD s j d) (length s) in
     ext-getD d (tab (λ j. getD s j d) (length s)) s l (λ i h. getD-tab (λ j. getD s j d) d (length s) i (omega (arith, l)))
 
+-- rows that stand there are no more than there is room for: of 4,096 words, at most so many rows
+pub rows-long : (R : Register) (µ : ℕ) (gs : List ℕ) (n : ℕ) (starts rows : List ℕ) → RowsStand R µ gs n starts rows → itemStart R µ gs n ≤ length rows
+unfolding itemStart
+rows-long R µ gs n starts rows s = omega (arith, ap length (s .rows-are), length-take (itemStart R µ gs n) rows)
+
 module _ (R : Register) (µ : ℕ) (gs : List ℕ) (n : ℕ) (classes starts rows : List ℕ) (g : Given R µ gs n classes starts rows) where
   starts-at : (x : ℕ) → x ≤ n → getD starts x 0 ≡ itemStart R µ gs x
   starts-at x h =
       sym (getD-take (n + 1) starts x 0 (omega arith)) ∙ ap (λ (l : List ℕ). getD l x 0) (g .rows-stand .starts-are)
       ∙ getD-tab (itemStart R µ gs) 0 (n + 1) x (omega arith)
+
+  -- lists that begin so are long enough
+  pub classes-long : n ≤ length classes
+  classes-long = omega (arith, g .numbered .long, length-take n classes)
+
+  pub starts-long : n + 1 ≤ length starts
+  starts-long = omega (arith, ap length (g .rows-stand .starts-are), length-take (n + 1) starts, length-tab (itemStart R µ gs) (n + 1))
 
   -- an item's words end where the next one's start, and so below the end of all
   pub rise : (x : ℕ) → x < n → getD starts x 0 ≤ getD starts (x + 1) 0
@@ -82,7 +94,7 @@ module _ (R : Register) (µ : ℕ) (gs : List ℕ) (n : ℕ) (classes starts row
   ends x h =
       let most : itemStart R µ gs x ≤ itemStart R µ gs n =
       by-eq x n (λ e. rw e (omega arith)) (λ e. omega (arith, joined-fits (itemRows R µ gs) n x (omega arith), joined-next (itemRows R µ gs) x)) in
-      (omega (arith, starts-at x h, g .few-rows), omega (arith, starts-at x h, g .rows-there))
+      (omega (arith, starts-at x h, g .few-rows), omega (arith, starts-at x h, rows-long R µ gs n starts rows (g .rows-stand)))
 
   module _ (k x : ℕ) (h : x < n) where
     abbrev L : List Row

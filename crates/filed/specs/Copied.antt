@@ -27,14 +27,12 @@ pub record Words (rows : List ℕ) (from m : ℕ) : Type 0 where
 abbrev pub classRows : Register → ℕ → List ℕ → List ℕ → List Row
 classRows R µ gs cs = join (λ k. rowsAt µ R (by gs) (classCount gs) k (lowestItem cs k)) (classCount cs)
 
--- the classes of n items, numbered in order of lowest item; and the items' rows against the groups gs, as a level step leaves them
+-- the classes of n items, numbered in order of lowest item; and the items' rows against the groups gs, as a level step leaves them. That
+-- the lists are long enough goes with what they begin with
 pub record Given (R : Register) (µ : ℕ) (gs : List ℕ) (n : ℕ) (classes starts rows : List ℕ) : Type 0 where
   pub cap-low : µ ≤ 7
   pub few-groups : classCount gs ≤ 1024
   pub few : n ≤ 1024
-  pub classes-there : n ≤ length classes
-  pub starts-there : n + 1 ≤ length starts
-  pub rows-there : itemStart R µ gs n ≤ length rows
   pub few-rows : itemStart R µ gs n ≤ 4096
   pub rows-stand : RowsStand R µ gs n starts rows
   pub like : ℕ → ℕ → Bool

@@ -4,7 +4,7 @@ use mathlib.Core.Logic.{⊎-elim}
 use Prim.Native.Nat.{ℕ, _+_, _-_, _≤_}
 use native.Mathlib.Omega.{arith}
 use lib.ListN.{length, take}
-use Rattle.filed.proofs.Laws.{Under, none-done, class-small, rise, ends, words-stand, first-turn, other-turn, all-done}
+use Rattle.filed.proofs.Laws.{Under, none-done, classes-long, starts-long, class-small, rise, ends, words-stand, first-turn, other-turn, all-done}
 use borrow.Author.Needs.{needs}
 use Rattle.filed.proofs.row_numbers.Statement.{statement}
 use Rattle.filed.proofs.row_numbers.Tie as tie
@@ -22,7 +22,7 @@ mul-if1 : tie.Need-mul-if1 Inv-loop μ-loop
 mul-if1 c = search needs
 
 shared-slice-read-if1 : tie.Need-shared-slice-read-if1 Inv-loop μ-loop
-shared-slice-read-if1 c = search needs
+shared-slice-read-if1 c = omega (arith, classes-long _ _ _ _ _ _ _ (c .before .before .before .before .before .before .before .pre .0 .3))
 
 cast-if1 : tie.Need-cast-if1 Inv-loop μ-loop
 cast-if1 c =
@@ -34,7 +34,7 @@ mul-from : tie.Need-mul-from Inv-loop μ-loop
 mul-from c = search needs
 
 shared-slice-read-from : tie.Need-shared-slice-read-from Inv-loop μ-loop
-shared-slice-read-from c = search needs
+shared-slice-read-from c = omega (arith, starts-long _ _ _ _ _ _ _ (c .before .before .before .before .before .before .before .before .before .pre .0 .3))
 
 cast-from : tie.Need-cast-from Inv-loop μ-loop
 cast-from c =
@@ -49,7 +49,7 @@ mul-m : tie.Need-mul-m Inv-loop μ-loop
 mul-m c = search needs
 
 shared-slice-read-m : tie.Need-shared-slice-read-m Inv-loop μ-loop
-shared-slice-read-m c = search needs
+shared-slice-read-m c = omega (arith, starts-long _ _ _ _ _ _ _ (c .before .before .before .before .before .before .before .before .before .before .pre .0 .3))
 
 cast-m : tie.Need-cast-m Inv-loop μ-loop
 cast-m c =
@@ -67,7 +67,7 @@ mul-copy-rows : tie.Need-mul-copy-rows Inv-loop μ-loop
 mul-copy-rows c = search needs
 
 shared-slice-read-copy-rows : tie.Need-shared-slice-read-copy-rows Inv-loop μ-loop
-shared-slice-read-copy-rows c = search needs
+shared-slice-read-copy-rows c = omega (arith, classes-long _ _ _ _ _ _ _ (c .before .before .before .before .before .before .before .before .before .before .before .pre .0 .3))
 
 copy-rows-requires : tie.Need-copy-rows-requires Inv-loop μ-loop
 copy-rows-requires c κs =
