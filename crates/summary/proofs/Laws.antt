@@ -26,7 +26,7 @@ unfolding pack
 pack-pack f put e [] = refl
 pack-pack f put e (a ∷ s) = pack-append put2 (f a) (pack f s) ∙ ap₂ (λ (x y : List ℕ). x ++ y) (e a) (pack-pack f put e s)
 
-size-numbers : (s : List ℕ) → length (pack put2 s) ≡ 2 * length s
+pub size-numbers : (s : List ℕ) → length (pack put2 s) ≡ 2 * length s
 unfolding pack put2
 size-numbers [] = omega arith
 size-numbers (v ∷ s) = omega (arith, size-numbers s)

@@ -1,0 +1,38 @@
+-- What the writer of a summary is handed, and what a call that fills a lent buffer gives: "A success returns the length written", "bytes
+-- past that length stay". Leans on files' Answers and on alike's rows.
+use mathlib.Core.Path.{_≡_}
+use mathlib.Core.List.{List}
+use Prim.Native.Nat.{ℕ, _≤_}
+use lib.ListN.{length, take}
+use Rattle.meaning.specs.Register.{items}
+use Rattle.meaning.specs.Level.{alike, classCount, Numbering}
+use Rattle.files.specs.RegisterFile.{registerIn}
+use Rattle.files.specs.Refusals.{numberOf}
+use Rattle.files.specs.Answers.{Returned, number, size, returned, left, into}
+use Rattle.register.specs.Told.{OfRegister}
+use Rattle.alike.specs.Step.{RowsStand}
+use Rattle.condense.specs.declared.Wrote.{Wrote}
+use Rattle.condense.specs.declared.Wrote.the-variants.{Length, Refused}
+
+abbrev pub told : Wrote → Returned
+told (Length k) = size k
+told (Refused r) = number (numberOf r)
+
+-- the bytes p were asked for, in a buffer that held d and now holds d′: written whole, or refused with 9
+pub record Gives (w : Wrote) (d d′ p : List ℕ) : Type 0 where
+  pub says : told w ≡ returned (into (length d) p)
+  pub leaves : d′ ≡ left (into (length d) p) d
+
+-- an accepted register with g groups and c classes of its n items, the classes numbered in order of lowest item, and with the rows of
+-- its items against the groups
+pub record Classed (b : List ℕ) (n m µ g c : ℕ) (groups map starts words : List ℕ) : Type 0 where
+  pub register : OfRegister b n m
+  pub cap-low : µ ≤ 7
+  pub groups-are : g ≡ classCount (take n groups)
+  pub classes-are : c ≡ classCount (take n map)
+  pub groups-long : length (take n groups) ≡ n
+  pub few-groups : classCount (take n groups) ≤ n
+  pub level : ℕ
+  pub numbered : Numbering (alike (registerIn b) µ level) (items (registerIn b)) (take n map)
+  pub rows-stand : RowsStand (registerIn b) µ (take n groups) n starts words
+  pub few-words : length words ≤ 4096
