@@ -54,7 +54,7 @@ pub fn condense(reg: &[u8], n: usize, m: usize, i: u16, mu: u8, nu: u8, out: &mu
     )
 }
 
-// The summary with these groups and these classes, whatever made them.
+// The summary with these groups, and with these classes of some level.
 fn put_summary(
     reg: &[u8],
     n: usize,
