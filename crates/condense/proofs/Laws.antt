@@ -56,11 +56,11 @@ parts-long head classes c rows r edges e map n room p =
     omega (arith, size-numbers (H ++ (C ++ (O ++ (E ++ M)))), length-append H (C ++ (O ++ (E ++ M))), length-append C (O ++ (E ++ M)), length-append O (E ++ M), length-append E M, h, k, o, l, m)
 
 module _ (d p : List ℕ) where
-  pub no-room : length d < length p → Gives (Refused Room) d d p
+  pub no-room : length d < length p → Gives (Refused Room) d d (into (length d) p)
   unfolding into returned left
   no-room h = let e : leb (length p) (length d) ≡ _ = lt-leb (length p) (length d) h in record { says = sym (rw e); leaves = sym (rw e) }
 
-  pub whole : (d′ : List ℕ) (k : ℕ) → k ≡ length p → length p ≤ length d → d′ ≡ sets d 0 p → Gives (Length k) d d′ p
+  pub whole : (d′ : List ℕ) (k : ℕ) → k ≡ length p → length p ≤ length d → d′ ≡ sets d 0 p → Gives (Length k) d d′ (into (length d) p)
   unfolding into returned
   whole d′ k e h s = let f = le-leb (length p) (length d) h in record { says = rw (f, e); leaves = rw f (s ∙ sets-left d p h) }
 
@@ -149,8 +149,8 @@ module _ (b : List ℕ) (n m µ ν g c : ℕ) (groups map starts words : List �
 
 -- ---- from the levels to the summary
 
-pub gives-same : (w : Wrote) (d d′ p q : List ℕ) → p ≡ q → Gives w d d′ p → Gives w d d′ q
-gives-same w d d′ p q e = subst (λ (p : List ℕ). Gives w d d′ p) e
+pub gives-same : (w : Wrote) (d d′ p q : List ℕ) → p ≡ q → Gives w d d′ (into (length d) p) → Gives w d d′ (into (length d) q)
+gives-same w d d′ p q e = subst (λ (p : List ℕ). Gives w d d′ (into (length d) p)) e
 
 module _ (b : List ℕ) (n m µ i ν : ℕ) (lower₀ lower upper₀ upper : List ℕ) (g c : ℕ) (starts words : List ℕ) (o : OfRegister b n m)
     (s : Reached (registerIn b) µ n i lower₀ lower upper₀ upper g c starts words) where

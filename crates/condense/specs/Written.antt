@@ -8,7 +8,7 @@ use Rattle.meaning.specs.Register.{items}
 use Rattle.meaning.specs.Level.{alike, classCount, Numbering}
 use Rattle.files.specs.RegisterFile.{registerIn}
 use Rattle.files.specs.Refusals.{numberOf}
-use Rattle.files.specs.Answers.{Returned, number, size, returned, left, into}
+use Rattle.files.specs.Answers.{Answer, Returned, number, size, returned, left}
 use Rattle.register.specs.Told.{OfRegister}
 use Rattle.alike.specs.Step.{RowsStand}
 use Rattle.condense.specs.declared.Wrote.{Wrote}
@@ -18,10 +18,10 @@ abbrev pub told : Wrote → Returned
 told (Length k) = size k
 told (Refused r) = number (numberOf r)
 
--- the bytes p were asked for, in a buffer that held d and now holds d′: written whole, or refused with 9
-pub record Gives (w : Wrote) (d d′ p : List ℕ) : Type 0 where
-  pub says : told w ≡ returned (into (length d) p)
-  pub leaves : d′ ≡ left (into (length d) p) d
+-- w is what is handed back of the answer a, and a buffer that held d now holds d′
+pub record Gives (w : Wrote) (d d′ : List ℕ) (a : Answer) : Type 0 where
+  pub says : told w ≡ returned a
+  pub leaves : d′ ≡ left a d
 
 -- an accepted register with g groups and c classes of its n items, the classes numbered in order of lowest item, and with the rows of
 -- its items against the groups

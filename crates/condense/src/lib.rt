@@ -2,11 +2,12 @@
 // on classes, filed and edges for the parts, on summary for the file.
 use files::Refusal;
 ghost use Prim.Native.Nat.{_≤_};
-ghost use lib.ListN.{take};
+ghost use lib.ListN.{length, take};
 ghost use Rattle.meaning.specs.Condense.{summaryBy, summaryOf};
 ghost use Rattle.files.specs.Bytes.{put2, pack};
 ghost use Rattle.files.specs.RegisterFile.{registerIn};
 ghost use Rattle.files.specs.SummaryFile.{summaryBytes, summarySize};
+ghost use Rattle.files.specs.Answers.{into};
 ghost use Rattle.register.specs.Told.{OfRegister};
 ghost use Rattle.summary.specs.Numbers.{numbers, Parts};
 ghost use Rattle.condense.specs.Written.{Gives, Classed};
@@ -20,7 +21,7 @@ pub enum Wrote {
 // "The classes of a summary are those of level i; its groups are those of level i − 1": 9, or its bytes.
 pub fn condense(reg: &[u8], n: usize, m: usize, i: u16, mu: u8, nu: u8, out: &mut [u8]) -> Wrote
     requires { ⌜ OfRegister (now reg) n m × (1 ≤ i) × (mu ≤ 7) ⌝ }
-    ensures { λ w. ⌜ Gives w (now (out .entry)) (now (out .exit)) (summaryBytes (summaryOf i mu nu (registerIn (now (reg .entry))))) ⌝ }
+    ensures { λ w. ⌜ Gives w (now (out .entry)) (now (out .exit)) (into (length (now (out .entry))) (summaryBytes (summaryOf i mu nu (registerIn (now (reg .entry)))))) ⌝ }
 {
     let mut groups = [0u16; 1024];
     let mut map = [0u16; 1024];
@@ -72,7 +73,7 @@ fn put_summary(
 ) -> Wrote
     requires { ⌜ Classed (now reg) n m mu g c (now groups) (now map) (now starts) (now words) ⌝ }
     ensures { λ w. ⌜ Gives w (now (out .entry)) (now (out .exit))
-        (summaryBytes (summaryBy mu nu (registerIn (now (reg .entry))) (take n (now (groups .entry))) (take n (now (map .entry))) i)) ⌝ }
+        (into (length (now (out .entry))) (summaryBytes (summaryBy mu nu (registerIn (now (reg .entry))) (take n (now (groups .entry))) (take n (now (map .entry))) i))) ⌝ }
 {
     let classes = classes::records(reg, n, groups, map, nu);
     let mut rows = [0u16; 16384];
@@ -105,7 +106,7 @@ fn file(
 ) -> Wrote
     requires { ⌜ Parts (now head) (now classes) c (now rows) r (now edges) e (now map) n (summarySize c r e n) ⌝ }
     ensures { λ w. ⌜ Gives w (now (out .entry)) (now (out .exit))
-        (pack put2 (numbers (now (head .entry)) (now (classes .entry)) c (now (rows .entry)) r (now (edges .entry)) e (now (map .entry)) n)) ⌝ }
+        (into (length (now (out .entry))) (pack put2 (numbers (now (head .entry)) (now (classes .entry)) c (now (rows .entry)) r (now (edges .entry)) e (now (map .entry)) n))) ⌝ }
 {
     let long = 24 + 8 * c + 8 * r + 6 * e + 2 * n;
     if out.len() < long {

@@ -1,18 +1,29 @@
 -- The refusals of each call in their order: what the answer is once the tests before have passed. Leans on files' Answers, and on
 -- the laws of what a judged register and a judged question are.
-use mathlib.Core.Path.{_≡_, refl, sym, ap, _∙_}
-use mathlib.Core.Bool.{Bool}
+use mathlib.Core.Path.{_≡_, refl, sym, ap, subst, _∙_}
+use mathlib.Core.Bool.{Bool, true, false, _&&_}
 use mathlib.Core.List.{List}
 use mathlib.Core.Option.{Option, none, some}
 use Prim.Native.Nat.{ℕ, zero, suc, _≤_, _<_}
 use native.Mathlib.Omega.{arith}
-use borrow.Author.Tests.{lt-ltb, le-ltb}
+use borrow.Author.Tests.{lt-ltb, le-ltb, leb-true}
+use lib.Dec.{leb}
+use lib.ListN.{length}
 use Rattle.meaning.specs.Register.{items}
+use Rattle.meaning.specs.WellFormed.{within, inRange}
+use Rattle.meaning.specs.Condense.{summaryOf}
 use Rattle.files.specs.RegisterFile.{registerIn, fault, verdict, verdictBy, accepted, refused}
 use Rattle.files.specs.RegisterFile as file
 use Rattle.files.specs.QuestionFile.{question}
-use Rattle.files.specs.Answers.{Answer, Returned, number, word, returned, unless, askTree, askRegister}
+use Rattle.files.specs.Answers.{Answer, Returned, number, word, returned, left, into, unless, condense, askTree, askRegister}
+use Rattle.files.specs.SummaryFile.{summaryBytes}
+use Rattle.files.specs.Refusals.{numberOf}
 use Rattle.files.specs.declared.Refusal.{Refusal}
+use Rattle.files.specs.declared.Refusal.the-variants.{Range}
+use Rattle.theory.proofs.CountLaws.{and-inv}
+use Rattle.condense.specs.Written.{Gives}
+use Rattle.condense.specs.declared.Wrote.{Wrote}
+use Rattle.condense.specs.declared.Wrote.the-variants as writes
 use Rattle.promise.proofs.Access.{items-at, links-at, accepted-so, refused-so}
 use Rattle.question.specs.Read as read
 use Rattle.question.proofs.Laws.{verdict-accepted, verdict-refused}
@@ -36,6 +47,15 @@ refused-first b k a e = go (fault b) e
     go : (j : ℕ) → refused k ≡ verdictBy j (Rattle.files.specs.Bytes.num2 b 0) (Rattle.files.specs.Bytes.num2 b 2) → number k ≡ returned (unless j a)
     go zero e = let z : _≡_ {A = ℕ} 0 1 = cc in absurd (omega arith)
     go (suc j) e = let s : k ≡ suc j = cc in ap number s
+
+-- and changes nothing
+refused-leaves : (b : List ℕ) (k : ℕ) (a : Answer) (d : List ℕ) → refused k ≡ verdict b → d ≡ left (unless (fault b) a) d
+unfolding verdict verdictBy unless left
+refused-leaves b k a d e = go (fault b) e
+  where
+    go : (j : ℕ) → refused k ≡ verdictBy j (Rattle.files.specs.Bytes.num2 b 0) (Rattle.files.specs.Bytes.num2 b 2) → d ≡ left (unless j a) d
+    go zero e = let z : _≡_ {A = ℕ} 0 1 = cc in absurd (omega arith)
+    go (suc j) e = refl
 
 -- ---- asking a register
 
@@ -71,3 +91,44 @@ never-refused a b r e f = let z : _≡_ {A = ℕ} 0 1 = cc in omega arith
 
 pub same-word : (a : Asked) (s t : Bool) → a ≡ asks.Said s → a ≡ asks.Said t → s ≡ t
 same-word a s t e f = cc
+
+-- ---- condensing
+
+module _ (b d : List ℕ) (i µ ν : ℕ) where
+  pub condense-refused : (r : Refusal) → refused (numberOf r) ≡ verdict b → Gives (writes.Refused r) d d (condense i µ ν b (length d))
+  unfolding condense
+  condense-refused r e =
+      record { says = refused-first b (numberOf r) _ e; leaves = refused-leaves b (numberOf r) _ d e }
+
+  module _ (f : fault b ≡ 0) where
+    pub condense-four : inRange i µ ν ≡ false → Gives (writes.Refused Range) d d (condense i µ ν b (length d))
+    unfolding condense unless returned left
+    condense-four e = record { says = sym (rw (f, e)); leaves = sym (rw (f, e)) }
+
+    pub condense-fits : inRange i µ ν ≡ true → into (length d) (summaryBytes (summaryOf i µ ν (registerIn b))) ≡ condense i µ ν b (length d)
+    unfolding condense unless
+    condense-fits e = sym (rw (f, e))
+
+-- the bounds of what is in range
+pub range-low : (i µ ν : ℕ) → inRange i µ ν ≡ true → (1 ≤ i) × (µ ≤ 7) × (ν ≤ 15)
+unfolding inRange within
+range-low i µ ν e =
+    let f = and-inv (leb 1 i && leb i 4 && (leb 1 µ && leb µ 7)) (leb 1 ν && leb ν 15) e in
+    let g = and-inv (leb 1 i && leb i 4) (leb 1 µ && leb µ 7) (f .0) in
+    (leb-true 1 i (and-inv (leb 1 i) (leb i 4) (g .0) .0), leb-true µ 7 (and-inv (leb 1 µ) (leb µ 7) (g .1) .1), leb-true ν 15 (and-inv (leb 1 ν) (leb ν 15) (f .1) .1))
+
+module _ (i µ ν : ℕ) where
+  pub no-level : within 1 i 4 ≡ false → false ≡ inRange i µ ν
+  unfolding inRange
+  no-level e = sym (rw e)
+
+  pub no-near : within 1 i 4 ≡ true → within 1 µ 7 ≡ false → false ≡ inRange i µ ν
+  unfolding inRange
+  no-near e f = sym (rw (e, f))
+
+  pub by-class : within 1 i 4 ≡ true → within 1 µ 7 ≡ true → within 1 ν 15 ≡ inRange i µ ν
+  unfolding inRange
+  by-class e f = sym (rw (e, f))
+
+pub gives-this : (w : Wrote) (d d′ : List ℕ) (a b : Answer) → a ≡ b → Gives w d d′ a → Gives w d d′ b
+gives-this w d d′ a b e = subst (λ (a : Answer). Gives w d d′ a) e

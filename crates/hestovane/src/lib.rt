@@ -1,14 +1,20 @@
 // The public calls. Each takes any input, judges it for itself and refuses with document 01's numbers in document 01's order; its
 // contract is an equation with the call's one definition in files' Answers. The exported functions give the same as one number.
+use condense::Wrote;
 use files::Refusal;
 use inquiry::Asked;
 use names::Item;
 use register::Judged;
 ghost use mathlib.Core.Path.{_≡_};
+ghost use lib.ListN.{length};
+ghost use Rattle.meaning.specs.WellFormed as meant;
+ghost use Rattle.meaning.specs.WellFormed.{inRange};
 ghost use Rattle.files.specs.QuestionFile.{question};
 ghost use Rattle.files.specs.Refusals.{numberOf};
 ghost use Rattle.files.specs.Answers.{word, number, returned, code, askTree, askRegister};
+ghost use Rattle.files.specs.Answers as answers;
 ghost use Rattle.register.specs.Told.{OfRegister};
+ghost use Rattle.condense.specs.Written.{Gives};
 ghost use Rattle.inquiry.specs.Known.{Whole};
 ghost use Rattle.hestovane.specs.Told.{told};
 
@@ -58,6 +64,55 @@ fn ask_whole(reg: &[u8], n: usize, m: usize, q: &[u8], item: u16) -> Said
         Asked::Said(yes) => spoken(yes),
         Asked::Refused(refusal) => Said::Refused(refusal),
     }
+}
+
+// The summary of the register, into the lent buffer: "condense 1, 2, 3 as above, 4, 9".
+pub fn condense(reg: &[u8], i: u16, mu: u16, nu: u16, out: &mut [u8]) -> Wrote
+    ensures { λ w. ⌜ Gives w (now (out .entry)) (now (out .exit)) (answers.condense i mu nu (now (reg .entry)) (length (now (out .entry)))) ⌝ }
+{
+    let judged = register::judge(reg);
+    match judged {
+        Judged::Accepted { items, links } => condense_accepted(reg, items, links, i, mu, nu, out),
+        Judged::Refused(refusal) => Wrote::Refused(refusal),
+    }
+}
+
+// The register is accepted: 4, judged before anything is narrowed to a byte.
+fn condense_accepted(
+    reg: &[u8],
+    n: usize,
+    m: usize,
+    i: u16,
+    mu: u16,
+    nu: u16,
+    out: &mut [u8],
+) -> Wrote
+    requires { ⌜ OfRegister (now reg) n m ⌝ }
+    ensures { λ w. ⌜ Gives w (now (out .entry)) (now (out .exit)) (answers.condense i mu nu (now (reg .entry)) (length (now (out .entry)))) ⌝ }
+{
+    if in_range(i, mu, nu) {
+        return condense::condense(reg, n, m, i, mu as u8, nu as u8, out);
+    }
+    Wrote::Refused(Refusal::Range)
+}
+
+// "4: i, µ or ν out of range".
+fn in_range(i: u16, mu: u16, nu: u16) -> bool
+    ensures { λ r. ⌜ r ≡ inRange i mu nu ⌝ }
+{
+    if !within(i, 4) {
+        return false;
+    }
+    if !within(mu, 7) {
+        return false;
+    }
+    within(nu, 15)
+}
+
+fn within(v: u16, most: u16) -> bool
+    ensures { λ r. ⌜ r ≡ meant.within 1 v most ⌝ }
+{
+    1 <= v && v <= most
 }
 
 fn spoken(yes: bool) -> Said
