@@ -1,12 +1,12 @@
 -- The refusals of each call in their order: what the answer is once the tests before have passed. Leans on files' Answers, and on
 -- the laws of what a judged register and a judged question are.
 use mathlib.Core.Path.{_≡_, refl, sym, ap, subst, _∙_}
-use mathlib.Core.Bool.{Bool, true, false, _&&_}
+use mathlib.Core.Bool.{Bool, true, false, cond}
 use mathlib.Core.List.{List}
 use mathlib.Core.Option.{Option, none, some}
 use Prim.Native.Nat.{ℕ, zero, suc, _≤_, _<_}
 use native.Mathlib.Omega.{arith}
-use borrow.Author.Tests.{lt-ltb, le-ltb, leb-true}
+use borrow.Author.Tests.{lt-ltb, le-ltb}
 use lib.Dec.{leb}
 use lib.ListN.{length}
 use Rattle.meaning.specs.Register.{items}
@@ -15,15 +15,18 @@ use Rattle.meaning.specs.Condense.{summaryOf}
 use Rattle.files.specs.RegisterFile.{registerIn, fault, verdict, verdictBy, accepted, refused}
 use Rattle.files.specs.RegisterFile as file
 use Rattle.files.specs.QuestionFile.{question}
-use Rattle.files.specs.Answers.{Answer, Returned, number, word, returned, left, into, unless, condense, askTree, askRegister}
+use Rattle.files.specs.Answers.{Answer, Returned, number, word, wrote, returned, left, into, unless, condense, askTree, askRegister}
+use Rattle.files.specs.Answers
 use Rattle.files.specs.SummaryFile.{summaryBytes}
 use Rattle.files.specs.Refusals.{numberOf}
 use Rattle.files.specs.declared.Refusal.{Refusal}
 use Rattle.files.specs.declared.Refusal.the-variants.{Range}
-use Rattle.theory.proofs.CountLaws.{and-inv}
+use Rattle.theory.proofs.WellMade.{level-least}
+use Rattle.condense.specs.Written as written
 use Rattle.condense.specs.Written.{Gives}
 use Rattle.condense.specs.declared.Wrote.{Wrote}
 use Rattle.condense.specs.declared.Wrote.the-variants as writes
+use Rattle.promise.proofs.Promise.{summary-most, in-range}
 use Rattle.promise.proofs.Access.{items-at, links-at, accepted-so, refused-so}
 use Rattle.question.specs.Read as read
 use Rattle.question.proofs.Laws.{verdict-accepted, verdict-refused}
@@ -31,6 +34,7 @@ use Rattle.register.specs.Told.{OfRegister}
 use Rattle.inquiry.specs.declared.Asked.{Asked}
 use Rattle.inquiry.specs.declared.Asked.the-variants as asks
 use Rattle.inquiry.specs.Known.{Whole, asked}
+use Rattle.hestovane.specs.Told.{Short}
 
 -- ---- the register
 
@@ -109,13 +113,24 @@ module _ (b d : List ℕ) (i µ ν : ℕ) where
     unfolding condense unless
     condense-fits e = sym (rw (f, e))
 
+-- what is written is short enough for C
+pub condense-short : (b : List ℕ) (room i µ ν : ℕ) → Short (returned (condense i µ ν b room))
+unfolding condense unless into returned Short
+condense-short b room i µ ν = let p = summaryBytes (summaryOf i µ ν (registerIn b)) in go p (summary-most i µ ν b) (fault b) refl (inRange i µ ν) (leb (length p) room)
+  where
+    go : (p : List ℕ) → (fault b ≡ 0 → length p ≤ 55320) → (k : ℕ) → fault b ≡ k → (s t : Bool) → Short (returned (unless k (cond s (cond t (wrote p) (Answers.refused 9)) (Answers.refused 4))))
+    go p h zero e true true = h e
+    go p h zero e true false = tt
+    go p h zero e false t = tt
+    go p h (suc k) e s t = tt
+
+pub short-length : (w : Wrote) (k : ℕ) → w ≡ writes.Length k → Short (written.told w) → k ≤ 55320
+unfolding Short
+short-length w k e h = subst (λ (w : Wrote). Short (written.told w)) e h
+
 -- the bounds of what is in range
 pub range-low : (i µ ν : ℕ) → inRange i µ ν ≡ true → (1 ≤ i) × (µ ≤ 7) × (ν ≤ 15)
-unfolding inRange within
-range-low i µ ν e =
-    let f = and-inv (leb 1 i && leb i 4 && (leb 1 µ && leb µ 7)) (leb 1 ν && leb ν 15) e in
-    let g = and-inv (leb 1 i && leb i 4) (leb 1 µ && leb µ 7) (f .0) in
-    (leb-true 1 i (and-inv (leb 1 i) (leb i 4) (g .0) .0), leb-true µ 7 (and-inv (leb 1 µ) (leb µ 7) (g .1) .1), leb-true ν 15 (and-inv (leb 1 ν) (leb ν 15) (f .1) .1))
+range-low i µ ν e = let r = in-range i µ ν e in (level-least i µ ν e, r .1, r .2)
 
 module _ (i µ ν : ℕ) where
   pub no-level : within 1 i 4 ≡ false → false ≡ inRange i µ ν

@@ -11,12 +11,13 @@ ghost use Rattle.meaning.specs.WellFormed as meant;
 ghost use Rattle.meaning.specs.WellFormed.{inRange};
 ghost use Rattle.files.specs.QuestionFile.{question};
 ghost use Rattle.files.specs.Refusals.{numberOf};
-ghost use Rattle.files.specs.Answers.{word, number, returned, code, askTree, askRegister};
+ghost use Rattle.files.specs.Answers.{word, number, returned, code, left, askTree, askRegister};
 ghost use Rattle.files.specs.Answers as answers;
 ghost use Rattle.register.specs.Told.{OfRegister};
+ghost use Rattle.condense.specs.Written as written;
 ghost use Rattle.condense.specs.Written.{Gives};
 ghost use Rattle.inquiry.specs.Known.{Whole};
-ghost use Rattle.hestovane.specs.Told.{told};
+ghost use Rattle.hestovane.specs.Told.{told, Short};
 
 // Yes, no, or the refusal.
 pub enum Said {
@@ -147,6 +148,25 @@ fn coded(answer: Said) -> i32
         Said::No => 0,
         Said::Refused(refusal) => minus(refusal),
     }
+}
+
+// The length written, or minus the refusal's number.
+fn measured(answer: Wrote) -> i32
+    requires { ⌜ Short (written.told answer) ⌝ }
+    ensures { λ r. ⌜ r ≡ code (written.told answer) ⌝ }
+{
+    match answer {
+        Wrote::Length(long) => long as i32,
+        Wrote::Refused(refusal) => minus(refusal),
+    }
+}
+
+#[no_mangle]
+pub extern "C" fn hestovane_condense(i: u16, mu: u16, nu: u16, reg: &[u8], out: &mut [u8]) -> i32
+    ensures { λ r. ⌜ r ≡ code (returned (answers.condense i mu nu (now (reg .entry)) (length (now (out .entry))))) ⌝ }
+    ensures { λ _. ⌜ now (out .exit) ≡ left (answers.condense i mu nu (now (reg .entry)) (length (now (out .entry)))) (now (out .entry)) ⌝ }
+{
+    measured(condense(reg, i, mu, nu, out))
 }
 
 #[no_mangle]

@@ -236,7 +236,7 @@ pub record SummarySmall (S : Summary) : Type 0 where
   pub links-fit : Every LinkSmall (S .links)
   pub map-fit : Every Small (S .map)
 
-module _ (S : Summary) (h : SummarySmall S) where
+module _ (S : Summary) where
   abbrev s : List ℕ
   s = summaryBytes S
 
@@ -248,54 +248,6 @@ module _ (S : Summary) (h : SummarySmall S) where
 
   abbrev e : ℕ
   e = length (S .links)
-
-  field-0 : num2 s 0 ≡ S .level
-  unfolding summaryBytes summaryHead put2 num2
-  field-0 = two-back (S .level) (h .level-small)
-
-  field-1 : num2 s 2 ≡ S .nearCap
-  unfolding summaryBytes summaryHead put2 num2
-  field-1 = two-back (S .nearCap) (h .near-small)
-
-  field-2 : num2 s 4 ≡ S .classCap
-  unfolding summaryBytes summaryHead put2 num2
-  field-2 = two-back (S .classCap) (h .cap-small)
-
-  field-3 : num2 s 6 ≡ c
-  unfolding summaryBytes summaryHead put2 num2
-  field-3 = two-back c (omega (arith, h .sizes-small))
-
-  field-4 : num2 s 8 ≡ S .groups
-  unfolding summaryBytes summaryHead put2 num2
-  field-4 = two-back (S .groups) (h .groups-small)
-
-  field-5 : num2 s 10 ≡ r
-  unfolding summaryBytes summaryHead put2 num2
-  field-5 = two-back r (omega (arith, h .sizes-small))
-
-  field-6 : num2 s 12 ≡ e
-  unfolding summaryBytes summaryHead put2 num2
-  field-6 = two-back e (omega (arith, h .sizes-small))
-
-  field-7 : num2 s 14 ≡ length (S .map)
-  unfolding summaryBytes summaryHead put2 num2
-  field-7 = two-back (length (S .map)) (omega (arith, h .sizes-small))
-
-  field-9 : num2 s 18 ≡ 24 + 8 * c
-  unfolding summaryBytes summaryHead put2 num2
-  field-9 = two-back (24 + 8 * c) (omega (arith, h .sizes-small))
-
-  field-10 : num2 s 20 ≡ 24 + 8 * c + 8 * r
-  unfolding summaryBytes summaryHead put2 num2
-  field-10 = two-back (24 + 8 * c + 8 * r) (omega (arith, h .sizes-small))
-
-  field-11 : num2 s 22 ≡ 24 + 8 * c + 8 * r + 6 * e
-  unfolding summaryBytes summaryHead put2 num2
-  field-11 = two-back (24 + 8 * c + 8 * r + 6 * e) (omega (arith, h .sizes-small))
-
-  field-8 : num2 s 16 ≡ 24
-  unfolding summaryBytes summaryHead put2 num2
-  field-8 = refl
 
   s-head : length (summaryHead S) ≡ 24
   unfolding summaryHead put2
@@ -348,52 +300,102 @@ module _ (S : Summary) (h : SummarySmall S) where
   at-3 : 24 + 8 * c + 8 * r + 6 * e ≡ length (((H ++ Cb) ++ Rb) ++ Lb)
   at-3 = omega (arith, length-append ((H ++ Cb) ++ Rb) Lb, at-2, size-l)
 
-  classes-back : tab (λ k. classIs s (24 + 8 * k)) c ≡ S .classes
-  unfolding summaryBytes
-  classes-back = unpacked 8 putClass classIs ClassSmall class-size class-shift class-back H (S .classes) (Rb ++ (Lb ++ (Mb ++ []))) 24 (sym s-head) (h .classes-fit)
-
-  rows-back : tab (λ k. rowIs s (24 + 8 * c + 8 * k)) r ≡ S .rows
-  rows-back =
-      ap (λ (z : List ℕ). tab (λ k. rowIs z (24 + 8 * c + 8 * k)) r) behind-1
-      ∙ unpacked 8 putRow rowIs RowSmall row-size row-shift row-back (H ++ Cb) (S .rows) (Lb ++ (Mb ++ [])) (24 + 8 * c) at-1 (h .rows-fit)
-
-  links-back : tab (λ k. linkAt s (24 + 8 * c + 8 * r + 6 * k)) e ≡ S .links
-  links-back =
-      ap (λ (z : List ℕ). tab (λ k. linkAt z (24 + 8 * c + 8 * r + 6 * k)) e) behind-2
-      ∙ unpacked 6 putLink linkAt LinkSmall link-size link-shift link-back ((H ++ Cb) ++ Rb) (S .links) (Mb ++ []) (24 + 8 * c + 8 * r) at-2 (h .links-fit)
-
-  map-back : tab (λ x. num2 s (24 + 8 * c + 8 * r + 6 * e + 2 * x)) (length (S .map)) ≡ S .map
-  map-back =
-      ap (λ (z : List ℕ). tab (λ x. num2 z (24 + 8 * c + 8 * r + 6 * e + 2 * x)) (length (S .map))) behind-3
-      ∙ unpacked 2 put2 num2 Small put2-size num2-shift num2-put2 (((H ++ Cb) ++ Rb) ++ Lb) (S .map) [] (24 + 8 * c + 8 * r + 6 * e) at-3 (h .map-fit)
-
-  pub summary-back : summaryIn (summaryBytes S) ≡ S
-  unfolding summaryIn
-  summary-back =
-      rw (field-3, field-5, field-6, field-7)
-      (λ i. record {
-        level = field-0 i;
-        nearCap = field-1 i;
-        classCap = field-2 i;
-        groups = field-4 i;
-        classes = classes-back i;
-        rows = rows-back i;
-        links = links-back i;
-        map = map-back i;
-      })
-
   pub summary-length : length (summaryBytes S) ≡ 24 + 8 * c + 8 * r + 6 * e + 2 * length (S .map)
   summary-length = ap length behind-3 ∙ omega (arith, length-append (((H ++ Cb) ++ Rb) ++ Lb) (Mb ++ []), length-append Mb [], at-3, size-m)
 
-  -- offsets and length are as they should be
-  pub summary-exact : exact (summaryBytes S) ≡ true
-  unfolding exact
-  summary-exact =
-      rw (field-3, field-5, field-6, field-7, field-8, field-9, field-10, field-11, summary-length)
-      (and-yes (and-yes (and-yes (and-yes (and-yes
-      (le-leb 24 (24 + 8 * c + 8 * r + 6 * e + 2 * length (S .map)) (omega arith))
-      refl)
-      (eq-eqb (24 + 8 * c) _ refl))
-      (eq-eqb (24 + 8 * c + 8 * r) _ refl))
-      (eq-eqb (24 + 8 * c + 8 * r + 6 * e) _ refl))
-      (eq-eqb (24 + 8 * c + 8 * r + 6 * e + 2 * length (S .map)) _ refl))
+  -- its numbers fit in two and four bytes: what is read is what was written
+  module _ (h : SummarySmall S) where
+    field-0 : num2 s 0 ≡ S .level
+    unfolding summaryBytes summaryHead put2 num2
+    field-0 = two-back (S .level) (h .level-small)
+
+    field-1 : num2 s 2 ≡ S .nearCap
+    unfolding summaryBytes summaryHead put2 num2
+    field-1 = two-back (S .nearCap) (h .near-small)
+
+    field-2 : num2 s 4 ≡ S .classCap
+    unfolding summaryBytes summaryHead put2 num2
+    field-2 = two-back (S .classCap) (h .cap-small)
+
+    field-3 : num2 s 6 ≡ c
+    unfolding summaryBytes summaryHead put2 num2
+    field-3 = two-back c (omega (arith, h .sizes-small))
+
+    field-4 : num2 s 8 ≡ S .groups
+    unfolding summaryBytes summaryHead put2 num2
+    field-4 = two-back (S .groups) (h .groups-small)
+
+    field-5 : num2 s 10 ≡ r
+    unfolding summaryBytes summaryHead put2 num2
+    field-5 = two-back r (omega (arith, h .sizes-small))
+
+    field-6 : num2 s 12 ≡ e
+    unfolding summaryBytes summaryHead put2 num2
+    field-6 = two-back e (omega (arith, h .sizes-small))
+
+    field-7 : num2 s 14 ≡ length (S .map)
+    unfolding summaryBytes summaryHead put2 num2
+    field-7 = two-back (length (S .map)) (omega (arith, h .sizes-small))
+
+    field-9 : num2 s 18 ≡ 24 + 8 * c
+    unfolding summaryBytes summaryHead put2 num2
+    field-9 = two-back (24 + 8 * c) (omega (arith, h .sizes-small))
+
+    field-10 : num2 s 20 ≡ 24 + 8 * c + 8 * r
+    unfolding summaryBytes summaryHead put2 num2
+    field-10 = two-back (24 + 8 * c + 8 * r) (omega (arith, h .sizes-small))
+
+    field-11 : num2 s 22 ≡ 24 + 8 * c + 8 * r + 6 * e
+    unfolding summaryBytes summaryHead put2 num2
+    field-11 = two-back (24 + 8 * c + 8 * r + 6 * e) (omega (arith, h .sizes-small))
+
+    field-8 : num2 s 16 ≡ 24
+    unfolding summaryBytes summaryHead put2 num2
+    field-8 = refl
+
+    classes-back : tab (λ k. classIs s (24 + 8 * k)) c ≡ S .classes
+    unfolding summaryBytes
+    classes-back = unpacked 8 putClass classIs ClassSmall class-size class-shift class-back H (S .classes) (Rb ++ (Lb ++ (Mb ++ []))) 24 (sym s-head) (h .classes-fit)
+
+    rows-back : tab (λ k. rowIs s (24 + 8 * c + 8 * k)) r ≡ S .rows
+    rows-back =
+        ap (λ (z : List ℕ). tab (λ k. rowIs z (24 + 8 * c + 8 * k)) r) behind-1
+        ∙ unpacked 8 putRow rowIs RowSmall row-size row-shift row-back (H ++ Cb) (S .rows) (Lb ++ (Mb ++ [])) (24 + 8 * c) at-1 (h .rows-fit)
+
+    links-back : tab (λ k. linkAt s (24 + 8 * c + 8 * r + 6 * k)) e ≡ S .links
+    links-back =
+        ap (λ (z : List ℕ). tab (λ k. linkAt z (24 + 8 * c + 8 * r + 6 * k)) e) behind-2
+        ∙ unpacked 6 putLink linkAt LinkSmall link-size link-shift link-back ((H ++ Cb) ++ Rb) (S .links) (Mb ++ []) (24 + 8 * c + 8 * r) at-2 (h .links-fit)
+
+    map-back : tab (λ x. num2 s (24 + 8 * c + 8 * r + 6 * e + 2 * x)) (length (S .map)) ≡ S .map
+    map-back =
+        ap (λ (z : List ℕ). tab (λ x. num2 z (24 + 8 * c + 8 * r + 6 * e + 2 * x)) (length (S .map))) behind-3
+        ∙ unpacked 2 put2 num2 Small put2-size num2-shift num2-put2 (((H ++ Cb) ++ Rb) ++ Lb) (S .map) [] (24 + 8 * c + 8 * r + 6 * e) at-3 (h .map-fit)
+
+    pub summary-back : summaryIn (summaryBytes S) ≡ S
+    unfolding summaryIn
+    summary-back =
+        rw (field-3, field-5, field-6, field-7)
+        (λ i. record {
+          level = field-0 i;
+          nearCap = field-1 i;
+          classCap = field-2 i;
+          groups = field-4 i;
+          classes = classes-back i;
+          rows = rows-back i;
+          links = links-back i;
+          map = map-back i;
+        })
+
+    -- offsets and length are as they should be
+    pub summary-exact : exact (summaryBytes S) ≡ true
+    unfolding exact
+    summary-exact =
+        rw (field-3, field-5, field-6, field-7, field-8, field-9, field-10, field-11, summary-length)
+        (and-yes (and-yes (and-yes (and-yes (and-yes
+        (le-leb 24 (24 + 8 * c + 8 * r + 6 * e + 2 * length (S .map)) (omega arith))
+        refl)
+        (eq-eqb (24 + 8 * c) _ refl))
+        (eq-eqb (24 + 8 * c + 8 * r) _ refl))
+        (eq-eqb (24 + 8 * c + 8 * r + 6 * e) _ refl))
+        (eq-eqb (24 + 8 * c + 8 * r + 6 * e + 2 * length (S .map)) _ refl))

@@ -22,7 +22,7 @@ use Rattle.meaning.specs.Summary
 use Rattle.meaning.specs.Condense.{summaryOf, summaryBy}
 use Rattle.meaning.specs.WellFormed.{within, linkIn, linkKey, accepted, inRange, classIn, rowIn, sizes, wellFormed}
 use Rattle.theory.proofs.ShapeLaws.{accepted-fine, link-in, well-parts, number-parts}
-use Rattle.theory.proofs.WellMade.{limits, level-least, summary-well-formed, groups-most, marks-from}
+use Rattle.theory.proofs.WellMade.{limits, level-least, summary-well-formed, classes-within, rows-within, links-within, map-whole, groups-most, marks-from}
 use Rattle.theory.proofs.Demand.{demand-3, summary-abstraction, summary-answers}
 use Rattle.theory.proofs.CheckLaws.{check-exact}
 use Rattle.files.specs.Bytes.{Bytes, num2, num4, put2, pack}
@@ -30,7 +30,7 @@ use Rattle.promise.proofs.BytesLaws.{byte-at}
 use Rattle.files.specs.RegisterFile.{linkAt, registerIn, linksFine, fault}
 use Rattle.promise.proofs.Access.{fault-none}
 use Rattle.files.specs.SummaryFile.{summaryIn, summaryBytes, wellFormedFile}
-use Rattle.promise.proofs.FileLaws.{ClassSmall, RowSmall, SummarySmall, summary-back, summary-exact}
+use Rattle.promise.proofs.FileLaws.{ClassSmall, RowSmall, SummarySmall, summary-length, summary-back, summary-exact}
 use Rattle.files.specs.Answers.{Answer, refused, said, wrote, unless, into, condense, check, askTree, askRegister, beyond, askIn, askSummary, listIn, list}
 use Rattle.files.specs.QuestionFile.{when, kind, andKind, kinds, treeOf, question}
 
@@ -59,9 +59,18 @@ marks-fit b h x =
     (λ e. rw (getD-tab (λ x. num4 b (12 + 4 * x)) 0 (num2 b 0) x (ltb-true x (num2 b 0) e)) (mark-fits b h (12 + 4 * x)))
     (λ e. rw (List·getD-eq-default (tab (λ x. num4 b (12 + 4 * x)) (num2 b 0)) 0 {n = x} (rw (length-tab (λ x. num4 b (12 + 4 * x)) (num2 b 0)) (ltb-false x (num2 b 0) e))) (omega arith))
 
--- ---- the summary made of it fits its file
+-- ---- its summary is at most 55,320 bytes long, at any level and caps
 
-in-range : (i µ ν : ℕ) → inRange i µ ν ≡ true → (i ≤ 4) × (µ ≤ 7) × (ν ≤ 15)
+pub summary-most : (i µ ν : ℕ) (b : List ℕ) → fault b ≡ 0 → length (summaryBytes (summaryOf i µ ν (registerIn b))) ≤ 55320
+summary-most i µ ν b e =
+    let R = registerIn b in
+    let a = fault-accepted b e in
+    let f = accepted-fine R a in
+    omega (arith, limits R a, classes-within i µ ν R, rows-within i µ ν R f, links-within i µ ν R f, map-whole i µ ν R, summary-length (summaryOf i µ ν R))
+
+-- ---- and fits its file
+
+pub in-range : (i µ ν : ℕ) → inRange i µ ν ≡ true → (i ≤ 4) × (µ ≤ 7) × (ν ≤ 15)
 unfolding inRange within
 in-range i µ ν e =
     let f = and-inv (leb 1 i && leb i 4 && (leb 1 µ && leb µ 7)) (leb 1 ν && leb ν 15) e in

@@ -1,0 +1,30 @@
+-- What the call gives, with its return as one number.
+use mir.Syntax.{w32}
+use mir.Facts.{toZ-ofZ}
+use mathlib.Core.Path.{sym, ap, subst, _∙_}
+use Rattle.files.specs.Answers.{Returned, code}
+use Rattle.hestovane.specs.Told.{Short}
+use Rattle.hestovane.proofs.Laws.{condense-short}
+use borrow.Author.Needs.{needs}
+use Rattle.hestovane.proofs.hestovane_condense.Statement.{statement}
+use Rattle.hestovane.proofs.hestovane_condense.Tie as tie
+
+condense-requires : tie.Need-condense-requires
+condense-requires c κs = search needs
+
+measured-requires : tie.Need-measured-requires
+measured-requires c κs =
+    let s = c .before .before in
+    subst (λ (r : Returned). Short r) (sym (s .condense .ensures .says)) (condense-short _ _ _ _ _)
+
+same-length : tie.Need-same-length
+same-length c = search needs
+
+returns : tie.Need-returns
+returns c =
+    let s = c .before .before .before in
+    (toZ-ofZ {w = w32} {z = c .measured .result} (search needs) ∙ c .measured .ensures ∙ ap code (s .condense .ensures .says), s .condense .ensures .leaves)
+
+pub hestovane-condense-spec : {M : Type 1} → statement M
+hestovane-condense-spec =
+    tie.close (tie.spec condense-requires measured-requires same-length returns)
