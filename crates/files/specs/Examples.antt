@@ -1,6 +1,6 @@
 -- P1 to P11 of document 01: one table of cases, one test that the checker computes, one statement. Each case goes through the
 -- definition that a public call's contract cites. Leans on Answers.
-use Prim.Native.Nat.{ℕ, _+_}
+use Prim.Native.Nat.{ℕ, _+_, _*_}
 use mathlib.Core.Bool.{Bool, true, false, cond, _&&_}
 use mathlib.Core.List.{List, [], _∷_, _++_}
 use lib.Dec.{T, eqb}
@@ -111,12 +111,15 @@ bytes (wrote p) = p
 counts : ℕ → List ℕ → Answer
 counts i b = let s = bytes (condense i 1 1 b 9999) in wrote (num2 s 6 ∷ num2 s 8 ∷ [])
 
--- a question at item 0 of a summary at level 1; and the count of that summary's first row
+-- a question at item 0 of a summary at level 1; and row j of that summary
 asked : ℕ → List ℕ → List ℕ → Answer
 asked µ b q = let s = bytes (condense 1 µ 1 b 9999) in askSummary s q 0
 
-firstRow : ℕ → List ℕ → Answer
-firstRow µ b = let s = bytes (condense 1 µ 1 b 9999) in wrote (num2 s (num2 s 18 + 6) ∷ [])
+row : ℕ → List ℕ → ℕ → Answer
+row µ b j =
+    let s = bytes (condense 1 µ 1 b 9999) in
+    let at = num2 s 18 + 8 * j in
+    wrote (num2 s at ∷ num2 s (at + 2) ∷ num2 s (at + 4) ∷ num2 s (at + 6) ∷ [])
 
 -- ---- the table
 
@@ -174,11 +177,12 @@ table =
     record { P = 8; got = counts 1 chain; want = wrote (3 ∷ 1 ∷ []) } ∷
     record { P = 8; got = counts 2 chain; want = wrote (4 ∷ 3 ∷ []) } ∷
     -- P9: "the hoist's row says 2, and 'at least 2 out by 0, true' holds at it; µ = 2: 3"
-    record { P = 9; got = firstRow 1 three; want = wrote (2 ∷ []) } ∷
+    record { P = 9; got = row 1 three 0; want = wrote (0 ∷ 0 ∷ 1 ∷ 2 ∷ []) } ∷
     record { P = 9; got = asked 1 three (out 2 ++ truth); want = said true } ∷
-    record { P = 9; got = firstRow 2 three; want = wrote (3 ∷ []) } ∷
+    record { P = 9; got = row 2 three 0; want = wrote (0 ∷ 0 ∷ 1 ∷ 3 ∷ []) } ∷
     -- P10: "'at least 2 out by 0, true' holds at the hoist, as 1 + 1"
-    record { P = 10; got = firstRow 1 pair; want = wrote (1 ∷ []) } ∷
+    record { P = 10; got = row 1 pair 0; want = wrote (0 ∷ 0 ∷ 1 ∷ 1 ∷ []) } ∷
+    record { P = 10; got = row 1 pair 1; want = wrote (0 ∷ 0 ∷ 2 ∷ 1 ∷ []) } ∷
     record { P = 10; got = asked 1 pair (out 2 ++ truth); want = said true } ∷
     -- P11: "the empty register gives 24 bytes, all offsets 24"
     record { P = 11; got = condense 1 1 1 empty 24; want = wrote (0 ∷ 1 ∷ 0 ∷ 1 ∷ 0 ∷ 1 ∷ 0 ∷ 0 ∷ 0 ∷ 0 ∷ 0 ∷ 0 ∷ 0 ∷ 0 ∷ 0 ∷ 0 ∷ 0 ∷ 24 ∷ 0 ∷ 24 ∷ 0 ∷ 24 ∷ 0 ∷ 24 ∷ []) } ∷
@@ -191,7 +195,7 @@ passes (c ∷ cs) = equal (c .got) (c .want) && passes cs
 
 -- to unfold this is to unfold every definition that the table computes with
 open-all : ℕ
-unfolding passes table same equal entry literal out incoming truth A S1 chain three pair empty counts asked firstRow bytes Rattle.meaning.specs.Count.sum Rattle.meaning.specs.Count.all Rattle.meaning.specs.Count.those Rattle.meaning.specs.Count.seek Rattle.meaning.specs.Count.tab Rattle.meaning.specs.Count.join Rattle.meaning.specs.Count.total Rattle.meaning.specs.Count.any Rattle.meaning.specs.Count.each Rattle.meaning.specs.Count.ascends Rattle.meaning.specs.Register.marksOf Rattle.meaning.specs.Register.sameWay Rattle.meaning.specs.Register.near Rattle.meaning.specs.Register.far Rattle.meaning.specs.Register.leads Rattle.meaning.specs.Register.neighbours Rattle.meaning.specs.Level.sameCount Rattle.meaning.specs.Level.sameAround Rattle.meaning.specs.Level.alike Rattle.meaning.specs.Level.first Rattle.meaning.specs.Level.lowest Rattle.meaning.specs.Level.number Rattle.meaning.specs.Level.classList Rattle.meaning.specs.Level.classCount Rattle.meaning.specs.Level.lowestItem Rattle.meaning.specs.Question.bit Rattle.meaning.specs.Question.shows Rattle.meaning.specs.Question.holds Rattle.meaning.specs.Question.depth Rattle.meaning.specs.Question.threshold Rattle.meaning.specs.Reading.push Rattle.meaning.specs.Reading.andPush Rattle.meaning.specs.Reading.stack Rattle.meaning.specs.Reading.only Rattle.meaning.specs.Reading.tree Rattle.meaning.specs.Summary.classOf Rattle.meaning.specs.Summary.classAt Rattle.meaning.specs.Summary.groupAt Rattle.meaning.specs.Summary.lowestClass Rattle.meaning.specs.Summary.rowFor Rattle.meaning.specs.Summary.counted Rattle.meaning.specs.Summary.stated Rattle.meaning.specs.Summary.joins Rattle.meaning.specs.Summary.holdsAt Rattle.meaning.specs.Summary.list Rattle.meaning.specs.Condense.rowUnless Rattle.meaning.specs.Condense.rowsThat Rattle.meaning.specs.Condense.classFor Rattle.meaning.specs.Condense.linksFrom Rattle.meaning.specs.Condense.summaryBy Rattle.meaning.specs.Condense.summaryOf Rattle.meaning.specs.WellFormed.within Rattle.meaning.specs.WellFormed.linkKey Rattle.meaning.specs.WellFormed.way Rattle.meaning.specs.WellFormed.rowKey Rattle.meaning.specs.WellFormed.linkIn Rattle.meaning.specs.WellFormed.inRange Rattle.meaning.specs.WellFormed.classIn Rattle.meaning.specs.WellFormed.rowIn Rattle.meaning.specs.WellFormed.hasRow Rattle.meaning.specs.WellFormed.hasLink Rattle.meaning.specs.WellFormed.rowsMatch Rattle.meaning.specs.WellFormed.sizes Rattle.meaning.specs.WellFormed.numbers Rattle.meaning.specs.WellFormed.order Rattle.meaning.specs.WellFormed.groupsUsed Rattle.meaning.specs.WellFormed.wellFormed Rattle.meaning.specs.Check.rowRight Rattle.meaning.specs.Check.imageStands Rattle.meaning.specs.Check.isImage Rattle.meaning.specs.Check.fits Rattle.files.specs.Bytes.num2 Rattle.files.specs.Bytes.num4 Rattle.files.specs.Bytes.put2 Rattle.files.specs.Bytes.put4 Rattle.files.specs.Bytes.pack Rattle.files.specs.RegisterFile.linkAt Rattle.files.specs.RegisterFile.putLink Rattle.files.specs.RegisterFile.registerIn Rattle.files.specs.RegisterFile.headed Rattle.files.specs.RegisterFile.linksFine Rattle.files.specs.RegisterFile.fault Rattle.files.specs.SummaryFile.classIs Rattle.files.specs.SummaryFile.putClass Rattle.files.specs.SummaryFile.wayFrom Rattle.files.specs.SummaryFile.labelFrom Rattle.files.specs.SummaryFile.rowIs Rattle.files.specs.SummaryFile.putRow Rattle.files.specs.SummaryFile.summaryIn Rattle.files.specs.SummaryFile.summaryHead Rattle.files.specs.SummaryFile.summaryBytes Rattle.files.specs.SummaryFile.exact Rattle.files.specs.SummaryFile.wellFormedFile Rattle.files.specs.QuestionFile.signed Rattle.files.specs.QuestionFile.when Rattle.files.specs.QuestionFile.kind Rattle.files.specs.QuestionFile.andKind Rattle.files.specs.QuestionFile.kinds Rattle.files.specs.QuestionFile.treeOf Rattle.files.specs.QuestionFile.question Rattle.files.specs.Answers.unless Rattle.files.specs.Answers.into Rattle.files.specs.Answers.condense Rattle.files.specs.Answers.check Rattle.files.specs.Answers.askTree Rattle.files.specs.Answers.askRegister Rattle.files.specs.Answers.beyond Rattle.files.specs.Answers.askIn Rattle.files.specs.Answers.askSummary Rattle.files.specs.Answers.listIn Rattle.files.specs.Answers.list
+unfolding passes table same equal entry literal out incoming truth A S1 chain three pair empty counts asked row bytes Rattle.meaning.specs.Count.sum Rattle.meaning.specs.Count.all Rattle.meaning.specs.Count.those Rattle.meaning.specs.Count.seek Rattle.meaning.specs.Count.tab Rattle.meaning.specs.Count.join Rattle.meaning.specs.Count.total Rattle.meaning.specs.Count.any Rattle.meaning.specs.Count.each Rattle.meaning.specs.Count.ascends Rattle.meaning.specs.Register.marksOf Rattle.meaning.specs.Register.sameWay Rattle.meaning.specs.Register.near Rattle.meaning.specs.Register.far Rattle.meaning.specs.Register.leads Rattle.meaning.specs.Register.neighbours Rattle.meaning.specs.Level.sameCount Rattle.meaning.specs.Level.sameAround Rattle.meaning.specs.Level.alike Rattle.meaning.specs.Level.first Rattle.meaning.specs.Level.lowest Rattle.meaning.specs.Level.number Rattle.meaning.specs.Level.classList Rattle.meaning.specs.Level.classCount Rattle.meaning.specs.Level.lowestItem Rattle.meaning.specs.Question.bit Rattle.meaning.specs.Question.shows Rattle.meaning.specs.Question.holds Rattle.meaning.specs.Question.depth Rattle.meaning.specs.Question.threshold Rattle.meaning.specs.Reading.push Rattle.meaning.specs.Reading.andPush Rattle.meaning.specs.Reading.stack Rattle.meaning.specs.Reading.only Rattle.meaning.specs.Reading.tree Rattle.meaning.specs.Summary.classOf Rattle.meaning.specs.Summary.classAt Rattle.meaning.specs.Summary.groupAt Rattle.meaning.specs.Summary.lowestClass Rattle.meaning.specs.Summary.rowFor Rattle.meaning.specs.Summary.counted Rattle.meaning.specs.Summary.stated Rattle.meaning.specs.Summary.joins Rattle.meaning.specs.Summary.holdsAt Rattle.meaning.specs.Summary.list Rattle.meaning.specs.Condense.rowUnless Rattle.meaning.specs.Condense.rowsThat Rattle.meaning.specs.Condense.classFor Rattle.meaning.specs.Condense.linksFrom Rattle.meaning.specs.Condense.summaryBy Rattle.meaning.specs.Condense.summaryOf Rattle.meaning.specs.WellFormed.within Rattle.meaning.specs.WellFormed.linkKey Rattle.meaning.specs.WellFormed.way Rattle.meaning.specs.WellFormed.rowKey Rattle.meaning.specs.WellFormed.linkIn Rattle.meaning.specs.WellFormed.inRange Rattle.meaning.specs.WellFormed.classIn Rattle.meaning.specs.WellFormed.rowIn Rattle.meaning.specs.WellFormed.hasRow Rattle.meaning.specs.WellFormed.hasLink Rattle.meaning.specs.WellFormed.rowsMatch Rattle.meaning.specs.WellFormed.sizes Rattle.meaning.specs.WellFormed.numbers Rattle.meaning.specs.WellFormed.order Rattle.meaning.specs.WellFormed.groupsUsed Rattle.meaning.specs.WellFormed.wellFormed Rattle.meaning.specs.Check.rowRight Rattle.meaning.specs.Check.imageStands Rattle.meaning.specs.Check.isImage Rattle.meaning.specs.Check.fits Rattle.files.specs.Bytes.num2 Rattle.files.specs.Bytes.num4 Rattle.files.specs.Bytes.put2 Rattle.files.specs.Bytes.put4 Rattle.files.specs.Bytes.pack Rattle.files.specs.RegisterFile.linkAt Rattle.files.specs.RegisterFile.putLink Rattle.files.specs.RegisterFile.registerIn Rattle.files.specs.RegisterFile.headed Rattle.files.specs.RegisterFile.linksFine Rattle.files.specs.RegisterFile.fault Rattle.files.specs.SummaryFile.classIs Rattle.files.specs.SummaryFile.putClass Rattle.files.specs.SummaryFile.wayFrom Rattle.files.specs.SummaryFile.labelFrom Rattle.files.specs.SummaryFile.rowIs Rattle.files.specs.SummaryFile.putRow Rattle.files.specs.SummaryFile.summaryIn Rattle.files.specs.SummaryFile.summaryHead Rattle.files.specs.SummaryFile.summaryBytes Rattle.files.specs.SummaryFile.exact Rattle.files.specs.SummaryFile.wellFormedFile Rattle.files.specs.QuestionFile.signed Rattle.files.specs.QuestionFile.when Rattle.files.specs.QuestionFile.kind Rattle.files.specs.QuestionFile.andKind Rattle.files.specs.QuestionFile.kinds Rattle.files.specs.QuestionFile.treeOf Rattle.files.specs.QuestionFile.question Rattle.files.specs.Answers.unless Rattle.files.specs.Answers.into Rattle.files.specs.Answers.condense Rattle.files.specs.Answers.check Rattle.files.specs.Answers.askTree Rattle.files.specs.Answers.askRegister Rattle.files.specs.Answers.beyond Rattle.files.specs.Answers.askIn Rattle.files.specs.Answers.askSummary Rattle.files.specs.Answers.listIn Rattle.files.specs.Answers.list
 open-all = 0
 
 -- every case of the table is answered as document 01 says
