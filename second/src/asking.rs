@@ -135,14 +135,7 @@ fn print_nested(out: &mut impl Write) -> io::Result<()> {
 /// A fault in the register, in the question and in the item number, each with and without the
 /// others: "ask a register 1, 2, 3, 5, 8".
 fn print_orders(out: &mut impl Write) -> io::Result<()> {
-    let base = base_register().write();
-    let registers = [
-        base.clone(),
-        base[..41].to_vec(),
-        with_number(&base, 0, 1_025),
-        with_number(&base, 38, 16),
-    ];
-    for (f, register) in registers.iter().enumerate() {
+    for (f, register) in sound_and_faulty_files().iter().enumerate() {
         for (g, question) in [entry(0, 0), entry(5, 0)].iter().enumerate() {
             for (h, item) in [0, 3].into_iter().enumerate() {
                 let answer = answer(register, question, item);
@@ -151,6 +144,17 @@ fn print_orders(out: &mut impl Write) -> io::Result<()> {
         }
     }
     Ok(())
+}
+
+/// The base register's file as it is, and with a fault that is refused 1, 2 and 3.
+pub fn sound_and_faulty_files() -> [Vec<u8>; 4] {
+    let base = base_register().write();
+    [
+        base.clone(),
+        base[..41].to_vec(),
+        with_number(&base, 0, 1_025),
+        with_number(&base, 38, 16),
+    ]
 }
 
 /// A small register and a question thrown after it with the same dice, asked at every item and at

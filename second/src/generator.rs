@@ -57,11 +57,7 @@ impl Dice {
 
 pub fn damaged_register(seed: u64) -> Vec<u8> {
     let mut dice = Dice::of_seed(seed);
-    let register = if seed.is_multiple_of(100) {
-        large_register(&mut dice)
-    } else {
-        small_register(&mut dice)
-    };
+    let register = seeded_register(seed, &mut dice);
     let mut file = register.write();
     damage(&mut file, &register, &mut dice);
     if dice.below(4) == 0 {
@@ -70,13 +66,28 @@ pub fn damaged_register(seed: u64) -> Vec<u8> {
     file
 }
 
+/// The register that the seed calls for, small or large, from the seed's own dice.
+pub fn seeded_register(seed: u64, dice: &mut Dice) -> Register {
+    if seed.is_multiple_of(100) {
+        large_register(dice)
+    } else {
+        small_register(dice)
+    }
+}
+
 pub fn small_register(dice: &mut Dice) -> Register {
     let n = dice.below(9);
     let marks = thrown_marks(n, dice);
     let p = 1 + dice.below(12);
+    let links = thrown_links(n, &[0, 1, 15], p, dice);
+    Register { marks, links }
+}
+
+/// A throw below p for every source, label and target, in the order of links.
+pub fn thrown_links(n: usize, labels: &[usize], p: usize, dice: &mut Dice) -> Vec<Link<Item>> {
     let mut links = Vec::new();
     for source in (0..n).map(Item) {
-        for label in [0, 1, 15] {
+        for &label in labels {
             for target in (0..n).map(Item) {
                 if dice.below(p) == 0 {
                     links.push(Link {
@@ -88,7 +99,7 @@ pub fn small_register(dice: &mut Dice) -> Register {
             }
         }
     }
-    Register { marks, links }
+    links
 }
 
 pub fn large_register(dice: &mut Dice) -> Register {
@@ -107,12 +118,12 @@ pub fn large_register(dice: &mut Dice) -> Register {
     Register { marks, links }
 }
 
-fn thrown_marks(n: usize, dice: &mut Dice) -> Vec<u32> {
+pub fn thrown_marks(n: usize, dice: &mut Dice) -> Vec<u32> {
     let choice = [1, 6, 10, 2_147_483_649];
     (0..n).map(|_| choice[dice.below(4)]).collect()
 }
 
-fn damage(file: &mut Vec<u8>, register: &Register, dice: &mut Dice) {
+pub fn damage(file: &mut Vec<u8>, register: &Register, dice: &mut Dice) {
     let m = register.links.len();
     match dice.below(12) {
         2 if !file.is_empty() => {

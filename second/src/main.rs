@@ -1,7 +1,7 @@
 //! `second`: crane registers, their summaries, and questions on both, written a second time.
-//! Without an argument it judges a fixed set of registers, asks a fixed set of questions, and
-//! prints one line for each case; `second condense` condenses the register on standard input and
-//! prints its summary.
+//! Without an argument it judges a fixed set of registers, asks a fixed set of questions, condenses
+//! a fixed set of registers, and prints one line for each case; `second condense` condenses the
+//! register on standard input and prints its summary.
 
 mod answers;
 mod asking;
@@ -9,6 +9,7 @@ mod bytes;
 mod caps;
 mod cases;
 mod condense;
+mod condensing;
 mod generator;
 mod link;
 mod neighbours;
@@ -18,6 +19,7 @@ mod question;
 mod question_generator;
 mod refusal;
 mod register;
+mod shapes;
 mod summary;
 mod wellformed;
 
@@ -39,6 +41,7 @@ fn main() -> io::Result<ExitCode> {
         [] => {
             cases::print(&mut out)?;
             asking::print(&mut out)?;
+            condensing::print(&mut out)?;
         }
         [word] if word == "condense" => program::run(io::stdin().lock(), &mut out)?,
         _ => {

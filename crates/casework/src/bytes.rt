@@ -2,7 +2,7 @@
 // fall outside is dropped and what is read there is 0, so that a case can be damaged in any way and nothing needs a proof.
 ghost use Prim.Native.Nat.{_<_};
 
-fn wide(b: u8) -> u64
+pub fn wide(b: u8) -> u64
     ensures { λ r. ⌜ r < 256 ⌝ }
 {
     b as u64

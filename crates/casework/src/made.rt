@@ -2,6 +2,8 @@
 // Small, for seeds that 100 does not divide: n is a throw below 9, then the marks, p is one more than a throw below 12; then for each
 // source, label of 0, 1, 15 and target in turn the link is there when a throw below p is 0. Large, for the others: 1,024 items and
 // 2,048 links; after the marks, link k goes from k / 2 by label 8 (k mod 2) + (throw below 8) to (throw below 1,024).
+// Labelled: n is one more than a throw below 24, then the marks, p is one more than a throw below 16; then for each source, label of 0 to
+// 15 and target in turn the link is there when a throw below p is 0 and fewer than 2,048 links are there already.
 // Marks: a throw below 4 for each item in turn picks 1, 6, 10 or 2147483649.
 use crate::bytes;
 use crate::dice::Dice;
@@ -23,16 +25,20 @@ fn picked(throw: u64) -> u64 {
     }
 }
 
+// "Total length (12 + 4n + 6m)".
+pub fn total(n: usize, m: usize) -> usize {
+    12 + 4 * (n % 65536) + 6 * (m % 65536)
+}
+
 // "Header of 12 bytes: item count n, link count m, offset of marks, offset of links, total length, zero."
 pub fn put_head(b: &mut [u8], n: usize, m: usize) {
     let len = b.len();
     let links = 12 + 4 * (n % 65536);
-    let total = links + 6 * (m % 65536);
     bytes::set_two(b, len, 0, n as u64);
     bytes::set_two(b, len, 2, m as u64);
     bytes::set_two(b, len, 4, 12);
     bytes::set_two(b, len, 6, links as u64);
-    bytes::set_two(b, len, 8, total as u64);
+    bytes::set_two(b, len, 8, total(n, m) as u64);
     bytes::set_two(b, len, 10, 0);
 }
 
@@ -94,13 +100,16 @@ fn targets(b: &mut [u8], made: Made, source: usize, label: u64, p: u64) -> Made
     now
 }
 
-// The link, if a throw below p is 0.
+// The link, if a throw below p is 0 and a register can have one more.
 fn perhaps(b: &mut [u8], made: Made, source: u64, label: u64, target: u64, p: u64) -> Made
     requires { ⌜ 0 < p ⌝ }
 {
     let dice = made.dice.thrown();
     let now = thrown(made, dice);
     if 0 < dice.shows(p) {
+        return now;
+    }
+    if 2048 <= now.links {
         return now;
     }
     put_link(b, now.items, now.links, source, label, target);
@@ -126,6 +135,31 @@ fn small_links(b: &mut [u8], made: Made, p: u64) -> Made
         now = targets(b, now, source, 0, p);
         now = targets(b, now, source, 1, p);
         now = targets(b, now, source, 15, p);
+        source += 1;
+    }
+    now
+}
+
+// The links from a source by every label.
+fn labels(b: &mut [u8], made: Made, source: usize, p: u64) -> Made
+    requires { ⌜ 0 < p ⌝ }
+{
+    let mut now = made;
+    let mut label = 0;
+    while label < 16 {
+        now = targets(b, now, source, label, p);
+        label += 1;
+    }
+    now
+}
+
+fn labelled_links(b: &mut [u8], made: Made, p: u64) -> Made
+    requires { ⌜ 0 < p ⌝ }
+{
+    let mut now = made;
+    let mut source = 0;
+    while source < made.items {
+        now = labels(b, now, source, p);
         source += 1;
     }
     now
@@ -171,6 +205,16 @@ pub fn small(b: &mut [u8], seed: u64) -> Made {
 pub fn large(b: &mut [u8], seed: u64) -> Made {
     let items = marked(b, 1024, Dice::of(seed));
     let made = large_links(b, items);
+    put_head(b, made.items, made.links);
+    made
+}
+
+pub fn labelled(b: &mut [u8], seed: u64) -> Made {
+    let first = Dice::of(seed).thrown();
+    let n = 1 + first.shows(24) as usize;
+    let items = marked(b, n, first);
+    let dice = items.dice.thrown();
+    let made = labelled_links(b, thrown(items, dice), 1 + dice.shows(16));
     put_head(b, made.items, made.links);
     made
 }

@@ -258,7 +258,7 @@ fn order(of_register: usize, of_question: usize, of_item: usize) {
         .print();
 }
 
-fn spoilt(b: &mut [u8], fault: usize) -> usize {
+pub fn spoilt(b: &mut [u8], fault: usize) -> usize {
     match fault {
         1 => 41,
         2 => {

@@ -65,7 +65,7 @@ pub fn limits() {
     }
 }
 
-fn items_at(c: usize) -> usize {
+pub fn items_at(c: usize) -> usize {
     match c {
         0 => 0,
         1 => 1,
@@ -74,7 +74,7 @@ fn items_at(c: usize) -> usize {
     }
 }
 
-fn links_at(c: usize) -> usize {
+pub fn links_at(c: usize) -> usize {
     match c {
         0 => 0,
         1 => 1,
@@ -87,7 +87,7 @@ fn limit(n: usize, m: usize) {
     let mut b = [0u8; 16500];
     exact(&mut b, n, m);
     let line = Line::new().word(b"limit").number(n as u64).number(m as u64);
-    judged(line, &b, 12 + 4 * (n % 65536) + 6 * (m % 65536));
+    judged(line, &b, made::total(n, m));
 }
 
 pub fn exact(b: &mut [u8], n: usize, m: usize) {
@@ -224,7 +224,7 @@ fn twice_damaged(b: &mut [u8], seed: u64) -> Made {
     }
 }
 
-fn whole_register(b: &mut [u8], seed: u64) -> Made {
+pub fn whole_register(b: &mut [u8], seed: u64) -> Made {
     if seed % 100 == 0 {
         made::large(b, seed)
     } else {

@@ -1,6 +1,7 @@
 // Runs cases through the proved library and prints a line for each: the family, the case's numbers, the answer. The second program prints
 // the same lines from its own code, and `stdout` here is what it printed. Leans on casework for dice, bytes and lines.
 mod asking;
+mod condensing;
 mod judging;
 
 fn main() {
@@ -17,4 +18,12 @@ fn main() {
     asking::orders();
     asking::seeded();
     asking::around();
+    condensing::ranges();
+    condensing::wides();
+    condensing::rooms();
+    condensing::ranks();
+    condensing::sizes();
+    condensing::shapes();
+    condensing::labelled();
+    condensing::seeded();
 }

@@ -1,0 +1,232 @@
+//! The cases of condensing: registers sound and faulty, condensed into a lent buffer, one line for
+//! each case. Eight families, in this order: range, wide, room, ranked, sized, shape, labelled,
+//! condensed.
+//!
+//! Buffer. Before each call it is filled anew: its byte at place p is (7p + 5) mod 256. Where no
+//! other length is told, it has 55,328 bytes.
+//!
+//! Answer. Three words: `wrote`, the length written and a hash, or `refused`, the refusal's number
+//! and a hash. The hash is that of every byte of the lent buffer after the call: it starts at 0,
+//! and for each byte in turn it becomes (hash * 65599 + byte + 1) mod 2^32.
+//!
+//! Lines. A family's name, the numbers told here, the answer; numbers are decimal, words are parted
+//! by one blank, and a line feed ends every line. Level, neighbour cap and class cap stand in this
+//! order. Of the numbers behind a family's name the first turns slowest, the last fastest.
+//!   range      level 0 to 5, neighbour cap 0 to 8, class cap 0 to 16; register A, 200 bytes.
+//!   wide       level and caps each through 1, 257, 65535; register A, 200 bytes.
+//!   room       the buffer's length, 0 to 130; register A at 1 1 1.
+//!   ranked     register, level and caps, buffer, each by its number from 0. The registers are the
+//!              base register of the faults: as it is; cut to its first 41 bytes; with the number
+//!              at place 0 become 1025; with the number at place 38 become 16. Level and caps are
+//!              1 1 1; 0 1 1; 1 8 1; 1 1 16. The buffers have 200 bytes; one byte less than the
+//!              summary of the base register at 1 1 1; none.
+//!   sized      n of 0, 1, 1024, 1025, m of 0, 1, 2048, 2049, level 0 to 5; the register of the
+//!              limits, caps 7 15.
+//!   shape      shape 0 to 8, its n of 1, 2, 3, 8, 50, 1024, level 1 to 4, then the caps, which are
+//!              1 1, then 2 3, then 7 15.
+//!   labelled   seed 1 to 300: the labelled register, then, from the same dice, level and caps.
+//!   condensed  seed 1 to 2000, and four answers. The dice give the small register, or, where 100
+//!              divides the seed, the large one. Then throw below 4: at 0 the file is damaged once,
+//!              as the generator tells. Then level and caps. With L the length that the first
+//!              answer wrote, 0 if it was refused, the other three buffers have L − 1 bytes (0
+//!              where L is 0), L bytes, and L + 3 bytes.
+//! Level and caps from dice: one more than a throw below 4, one more than a throw below 7, one more
+//! than a throw below 15.
+
+use crate::asking::sound_and_faulty_files;
+use crate::cases::{base_register, paired_register};
+use crate::condense::condense;
+use crate::generator::{damage, seeded_register, Dice};
+use crate::refusal::Refusal;
+use crate::shapes::{labelled_register, register_a, SHAPES};
+use crate::summary::MOST_LENGTH;
+use std::fmt;
+use std::io::{self, Write};
+
+/// Eight bytes more than any summary has.
+const ROOM: usize = MOST_LENGTH + 8;
+const SMALL_ROOM: usize = 200;
+
+/// Level, neighbour cap and class cap, in range or not.
+type LevelAndCaps = (usize, usize, usize);
+
+pub fn print(out: &mut impl Write) -> io::Result<()> {
+    print_ranges(out)?;
+    print_wide(out)?;
+    print_rooms(out)?;
+    print_ranked(out)?;
+    print_sized(out)?;
+    print_shapes(out)?;
+    print_labelled(out)?;
+    print_condensed(out)
+}
+
+/// What the call gave, and the hash of the buffer that was lent to it.
+struct Answer {
+    length: Result<usize, Refusal>,
+    hash: u32,
+}
+
+impl Answer {
+    /// The length that was written, 0 where the call refused.
+    fn written(&self) -> usize {
+        self.length.unwrap_or(0)
+    }
+}
+
+impl fmt::Display for Answer {
+    fn fmt(&self, f: &mut fmt::Formatter<'_>) -> fmt::Result {
+        match self.length {
+            Ok(length) => write!(f, "wrote {length} {}", self.hash),
+            Err(refusal) => write!(f, "refused {} {}", refusal.number(), self.hash),
+        }
+    }
+}
+
+/// "A refusal returns its number only, and no lent byte changes. A success returns the length
+/// written, or yes or no; bytes past that length stay."
+fn answer(register: &[u8], (level, mu, nu): LevelAndCaps, room: usize) -> Answer {
+    let mut lent = filled_buffer(room);
+    let condensed = condense(level, mu, nu, register, room);
+    let length = condensed.map(|summary| {
+        lent[..summary.len()].copy_from_slice(&summary);
+        summary.len()
+    });
+    let hash = hash(&lent);
+    Answer { length, hash }
+}
+
+pub fn filled_buffer(length: usize) -> Vec<u8> {
+    (0..length).map(|p| (7 * p + 5) as u8).collect()
+}
+
+/// Numbers of 32 bits wrap around at 2^32.
+pub fn hash(bytes: &[u8]) -> u32 {
+    bytes.iter().fold(0, |hash: u32, byte| {
+        hash.wrapping_mul(65_599).wrapping_add(u32::from(*byte) + 1)
+    })
+}
+
+/// "i, µ or ν out of range": each of them in range and on either side of it.
+fn print_ranges(out: &mut impl Write) -> io::Result<()> {
+    let a = register_a().write();
+    for i in 0..=5 {
+        for mu in 0..=8 {
+            for nu in 0..=16 {
+                let answer = answer(&a, (i, mu, nu), SMALL_ROOM);
+                writeln!(out, "range {i} {mu} {nu} {answer}")?;
+            }
+        }
+    }
+    Ok(())
+}
+
+/// Numbers whose low byte is in range, or that are the highest of two bytes.
+fn print_wide(out: &mut impl Write) -> io::Result<()> {
+    let a = register_a().write();
+    let wide = [1, 257, 65_535];
+    for i in wide {
+        for mu in wide {
+            for nu in wide {
+                let answer = answer(&a, (i, mu, nu), SMALL_ROOM);
+                writeln!(out, "wide {i} {mu} {nu} {answer}")?;
+            }
+        }
+    }
+    Ok(())
+}
+
+/// A buffer too short, just long enough, and longer.
+fn print_rooms(out: &mut impl Write) -> io::Result<()> {
+    let a = register_a().write();
+    for room in 0..=130 {
+        let answer = answer(&a, (1, 1, 1), room);
+        writeln!(out, "room {room} {answer}")?;
+    }
+    Ok(())
+}
+
+/// A fault in the register, in level and caps and in the buffer, each with and without the others:
+/// "condense 1, 2, 3 as above, 4, 9".
+fn print_ranked(out: &mut impl Write) -> io::Result<()> {
+    let ones = (1, 1, 1);
+    let whole = answer(&base_register().write(), ones, ROOM).written();
+    let rooms = [SMALL_ROOM, whole - 1, 0];
+    for (f, register) in sound_and_faulty_files().iter().enumerate() {
+        for (r, level_and_caps) in [ones, (0, 1, 1), (1, 8, 1), (1, 1, 16)].iter().enumerate() {
+            for (s, room) in rooms.iter().enumerate() {
+                let answer = answer(register, *level_and_caps, *room);
+                writeln!(out, "ranked {f} {r} {s} {answer}")?;
+            }
+        }
+    }
+    Ok(())
+}
+
+/// Registers at the limits and one past them, at every level and one past either end.
+fn print_sized(out: &mut impl Write) -> io::Result<()> {
+    for n in [0, 1, 1_024, 1_025] {
+        for m in [0, 1, 2_048, 2_049] {
+            let register = paired_register(n, m).write();
+            for i in 0..=5 {
+                let answer = answer(&register, (i, 7, 15), ROOM);
+                writeln!(out, "sized {n} {m} {i} {answer}")?;
+            }
+        }
+    }
+    Ok(())
+}
+
+/// Registers whose classes differ much from level to level and from cap to cap, or not at all.
+fn print_shapes(out: &mut impl Write) -> io::Result<()> {
+    for (s, shape) in SHAPES.iter().enumerate() {
+        for n in [1, 2, 3, 8, 50, 1_024] {
+            let register = shape(n).write();
+            for i in 1..=4 {
+                for (mu, nu) in [(1, 1), (2, 3), (7, 15)] {
+                    let answer = answer(&register, (i, mu, nu), ROOM);
+                    writeln!(out, "shape {s} {n} {i} {mu} {nu} {answer}")?;
+                }
+            }
+        }
+    }
+    Ok(())
+}
+
+/// Registers with links by every label, up to as many as there may be.
+fn print_labelled(out: &mut impl Write) -> io::Result<()> {
+    for seed in 1..=300 {
+        let dice = &mut Dice::of_seed(seed);
+        let register = labelled_register(dice).write();
+        let answer = answer(&register, thrown_level_and_caps(dice), ROOM);
+        writeln!(out, "labelled {seed} {answer}")?;
+    }
+    Ok(())
+}
+
+/// Thrown registers, some of them damaged, with room to spare, too little, just enough, and a
+/// little more.
+fn print_condensed(out: &mut impl Write) -> io::Result<()> {
+    for seed in 1..=2_000 {
+        let dice = &mut Dice::of_seed(seed);
+        let register = seeded_register(seed, dice);
+        let mut file = register.write();
+        if dice.below(4) == 0 {
+            damage(&mut file, &register, dice);
+        }
+        let level_and_caps = thrown_level_and_caps(dice);
+        let first = answer(&file, level_and_caps, ROOM);
+        let length = first.written();
+        let rooms = [length.saturating_sub(1), length, length + 3];
+        let [short, exact, longer] = rooms.map(|room| answer(&file, level_and_caps, room));
+        writeln!(out, "condensed {seed} {first} {short} {exact} {longer}")?;
+    }
+    Ok(())
+}
+
+fn thrown_level_and_caps(dice: &mut Dice) -> LevelAndCaps {
+    let level = 1 + dice.below(4);
+    let neighbour_cap = 1 + dice.below(7);
+    let class_cap = 1 + dice.below(15);
+    (level, neighbour_cap, class_cap)
+}
