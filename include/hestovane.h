@@ -18,9 +18,17 @@
 #include <stddef.h>
 #include <stdint.h>
 
+/* No summary is longer. */
+#define HESTOVANE_SUMMARY_MOST 55320
+
 #ifdef __cplusplus
 extern "C" {
 #endif
+
+/* The summary of the register at that level (1 to 4) and those caps (1 to 7, 1 to 15), into out: its length, or refused with 1, 2, 3, 4, 9
+ * in that order. A refusal changes no byte of out; a success leaves the bytes past the length as they were. reg and out must not overlap. */
+int32_t hestovane_condense(uint16_t level, uint16_t neighbour_cap, uint16_t class_cap,
+                           const uint8_t *reg, size_t reg_len, uint8_t *out, size_t out_len);
 
 /* Whether the question holds at the item of the register: 1, 0, or refused with 1, 2, 3, 5, 8 in that order. */
 int32_t hestovane_ask_register(const uint8_t *reg, size_t reg_len, const uint8_t *q, size_t q_len, uint16_t item);
