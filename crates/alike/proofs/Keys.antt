@@ -7,8 +7,8 @@ use Prim.Native.Nat.{ℕ, _+_, _*_, _≤_, _<_}
 use native.Mathlib.Omega.{arith}
 use borrow.Author.Tests.{eq-eqb, ne-eqb, eqb-true}
 use lib.Dec.{eqb}
-use lib.ListN.{length, getD, take, set, length-set}
-use lib.Seq.{getD-take, length-take-le, getD-set-same, getD-set-other}
+use lib.ListN.{length, getD, take}
+use lib.Seq.{getD-take, length-take-le}
 use Rattle.meaning.specs.Count.{tally}
 use Rattle.meaning.specs.Register.{Link, noLink, linkOf, LinkFine, Fine, sameWay, near, far, leads, neighbours}
 use Rattle.meaning.specs.declared.Direction.{Direction}
@@ -22,7 +22,7 @@ use Rattle.theory.proofs.NumberLaws.{getD-below, count-le}
 use Rattle.theory.proofs.OneLaws.{way-tells}
 use Rattle.promise.proofs.Access.{items-at, links-at, readable}
 use Rattle.rows.specs.Rows.{hits, often}
-use Rattle.alike.specs.Step.{OfClasses, keyOf, Writes}
+use Rattle.alike.specs.Step.{OfClasses, keyOf}
 use Rattle.register.specs.Told.{OfItems, OfRegister}
 use Rattle.alike.proofs.Words.{way-below}
 
@@ -43,20 +43,6 @@ pub key-made : (d : Direction) (cs : List ℕ) (a : Link) (x w i o : ℕ) → x 
     x * 32768 + w * 1024 + getD cs o 0 ≡ keyOf d cs a
 unfolding keyOf
 key-made d cs a x w i o e f g h = rw (e, f, g, h)
-
-module _ (t : List ℕ) (from m : ℕ) (f : ℕ → ℕ) where
-  pub writes-none : Writes t t from 0 f
-  writes-none = record { says = λ k h. absurd (omega arith); kept = λ i h. refl; long = refl }
-
-  pub writes-next : (u : List ℕ) (k v : ℕ) → from + k < length u → v ≡ f k → Writes t u from k f → Writes t (set u (from + k) v) from (k + 1) f
-  writes-next u k v h e w = record {
-    says = λ j g.
-        by-eq j k
-        (λ q. rw q (getD-set-same u (from + k) v 0 h ∙ e))
-        (λ q. getD-set-other u (from + k) (from + j) v 0 (λ z. q (omega arith)) ∙ w .says j (omega arith));
-    kept = λ i g. getD-set-other u (from + k) i v 0 (λ z. omega arith) ∙ w .kept i g;
-    long = simp length-set (w .long);
-  }
 
 -- ---- the class list that the code reads
 

@@ -28,7 +28,8 @@ use Rattle.rows.proofs.Joined.{joined-next, joined-fits, joined-at}
 use Rattle.rows.proofs.Laws.{often-sorted}
 use Rattle.signature.specs.Signature.{size, word, alikeSig, Laid}
 use Rattle.signature.proofs.Laws.{sig-parts, sig-yes}
-use Rattle.alike.specs.Step.{OfClasses, keyOf, Writes, wordOf, words, itemRows, itemStart, RowsStand}
+use Rattle.lists.specs.Writes.{Writes}
+use Rattle.alike.specs.Step.{OfClasses, keyOf, wordOf, words, itemRows, itemStart, RowsStand}
 use Rattle.register.specs.Told.{OfRegister}
 use Rattle.alike.proofs.Words.{RowFits, word-fields, words-length, words-at, words-tell, rows-fit, item-words, words-any}
 use Rattle.alike.proofs.Keys.{list-few, often-neighbours, neighbours-past}

@@ -29,12 +29,6 @@ pub record Room (n m rows starts keys other firsts : ℕ) : Type 0 where
 unfoldable pub keyOf : Direction → List ℕ → Link → ℕ
 keyOf d cs a = near d a * 32768 + way d (a .label) * 1024 + getD cs (far d a) 0
 
--- u is t with f 0, f 1, .. f (m - 1) from a place on, and what stands before as it was
-pub record Writes (t u : List ℕ) (from m : ℕ) (f : ℕ → ℕ) : Type 0 where
-  pub says : (k : ℕ) → k < m → getD u (from + k) 0 ≡ f k
-  pub kept : (i : ℕ) → i < from → getD u i 0 ≡ getD t i 0
-  pub long : length u ≡ length t
-
 -- a row, but for its class, in one word
 unfoldable pub wordOf : Row → ℕ
 wordOf r = (way (r .direction) (r .label) * 1024 + r .group) * 16 + r .count

@@ -12,7 +12,8 @@ ghost use Rattle.meaning.specs.WellFormed.{way as wayNumber};
 ghost use Rattle.meaning.specs.Level.{number, alikeNext, classList, classCount};
 ghost use Rattle.files.specs.RegisterFile.{registerIn};
 ghost use Rattle.register.specs.Told.{OfLink, OfItems, OfRegister};
-ghost use Rattle.alike.specs.Step.{OfClasses, Room, keyOf, Writes, itemRows, itemStart, RowsStand, Reached};
+ghost use Rattle.lists.specs.Writes.{Writes};
+ghost use Rattle.alike.specs.Step.{OfClasses, Room, keyOf, itemRows, itemStart, RowsStand, Reached};
 
 // "direction times 16 plus label (out 0, in 1)".
 fn way_number(way: Direction, label: u8) -> u64

@@ -24,6 +24,7 @@ use Rattle.rows.proofs.Joined.{joined-next, joined-fits}
 use Rattle.alike.specs.Step.{wordOf, itemRows, itemStart, RowsStand}
 use Rattle.alike.proofs.Words.{RowFits, way-below, word-fields, rows-fit}
 use Rattle.alike.proofs.Laws.{row-count, row-word}
+use Rattle.lists.proofs.Laws.{places}
 use Rattle.filed.specs.Copied.{wordNumbers, copied, Words, classRows, Given}
 
 -- ---- writing
@@ -61,11 +62,6 @@ row-back k r p = let f = word-fields k r p in rw (f .0, f .1, f .2, p .0)
 word-small : (k : ℕ) (r : Row) → RowFits k r → wordOf r < 524288
 unfolding wordOf
 word-small k r p = let u = way-below (r .direction) (r .label) (p .1) in omega (arith, p .2, p .3)
-
-places : {A : Type 0} (d : A) (s : List A) → tab (λ j. getD s j d) (length s) ≡ s
-places d s =
-    let l = length-tab (λ j. getD s j d) (length s) in
-    ext-getD d (tab (λ j. getD s j d) (length s)) s l (λ i h. getD-tab (λ j. getD s j d) d (length s) i (omega (arith, l)))
 
 -- rows that stand there are no more than there is room for: of 4,096 words, at most so many rows
 pub rows-long : (R : Register) (µ : ℕ) (gs : List ℕ) (n : ℕ) (starts rows : List ℕ) → RowsStand R µ gs n starts rows → itemStart R µ gs n ≤ length rows

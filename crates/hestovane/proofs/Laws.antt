@@ -10,7 +10,7 @@ use borrow.Author.Tests.{lt-ltb, le-ltb}
 use lib.Dec.{leb}
 use lib.ListN.{length}
 use Rattle.meaning.specs.Register.{items}
-use Rattle.meaning.specs.WellFormed.{within, inRange}
+use Rattle.meaning.specs.WellFormed.{inRange}
 use Rattle.meaning.specs.Condense.{summaryOf}
 use Rattle.files.specs.RegisterFile.{registerIn, fault, verdict, verdictBy, accepted, refused}
 use Rattle.files.specs.RegisterFile as file
@@ -131,19 +131,6 @@ short-length w k e h = subst (λ (w : Wrote). Short (written.told w)) e h
 -- the bounds of what is in range
 pub range-low : (i µ ν : ℕ) → inRange i µ ν ≡ true → (1 ≤ i) × (µ ≤ 7) × (ν ≤ 15)
 range-low i µ ν e = let r = in-range i µ ν e in (level-least i µ ν e, r .1, r .2)
-
-module _ (i µ ν : ℕ) where
-  pub no-level : within 1 i 4 ≡ false → false ≡ inRange i µ ν
-  unfolding inRange
-  no-level e = sym (rw e)
-
-  pub no-near : within 1 i 4 ≡ true → within 1 µ 7 ≡ false → false ≡ inRange i µ ν
-  unfolding inRange
-  no-near e f = sym (rw (e, f))
-
-  pub by-class : within 1 i 4 ≡ true → within 1 µ 7 ≡ true → within 1 ν 15 ≡ inRange i µ ν
-  unfolding inRange
-  by-class e f = sym (rw (e, f))
 
 pub gives-this : (w : Wrote) (d d′ : List ℕ) (a b : Answer) → a ≡ b → Gives w d d′ a → Gives w d d′ b
 gives-this w d d′ a b e = subst (λ (a : Answer). Gives w d d′ a) e

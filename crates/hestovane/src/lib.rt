@@ -7,8 +7,6 @@ use names::Item;
 use register::Judged;
 ghost use mathlib.Core.Path.{_≡_};
 ghost use lib.ListN.{length};
-ghost use Rattle.meaning.specs.WellFormed as meant;
-ghost use Rattle.meaning.specs.WellFormed.{inRange};
 ghost use Rattle.files.specs.QuestionFile.{question};
 ghost use Rattle.files.specs.Refusals.{numberOf};
 ghost use Rattle.files.specs.Answers.{word, number, returned, code, left, askTree, askRegister};
@@ -78,7 +76,7 @@ pub fn condense(reg: &[u8], i: u16, mu: u16, nu: u16, out: &mut [u8]) -> Wrote
     }
 }
 
-// The register is accepted: 4, judged before anything is narrowed to a byte.
+// The register is accepted: "4: i, µ or ν out of range", judged before anything is narrowed to a byte.
 fn condense_accepted(
     reg: &[u8],
     n: usize,
@@ -91,29 +89,10 @@ fn condense_accepted(
     requires { ⌜ OfRegister (now reg) n m ⌝ }
     ensures { λ w. ⌜ Gives w (now (out .entry)) (now (out .exit)) (answers.condense i mu nu (now (reg .entry)) (length (now (out .entry)))) ⌝ }
 {
-    if in_range(i, mu, nu) {
+    if range::in_range(i, mu, nu) {
         return condense::condense(reg, n, m, i, mu as u8, nu as u8, out);
     }
     Wrote::Refused(Refusal::Range)
-}
-
-// "4: i, µ or ν out of range".
-fn in_range(i: u16, mu: u16, nu: u16) -> bool
-    ensures { λ r. ⌜ r ≡ inRange i mu nu ⌝ }
-{
-    if !within(i, 4) {
-        return false;
-    }
-    if !within(mu, 7) {
-        return false;
-    }
-    within(nu, 15)
-}
-
-fn within(v: u16, most: u16) -> bool
-    ensures { λ r. ⌜ r ≡ meant.within 1 v most ⌝ }
-{
-    1 <= v && v <= most
 }
 
 fn spoken(yes: bool) -> Said

@@ -77,7 +77,7 @@ in-range i µ ν e =
     let g = and-inv (leb 1 i && leb i 4) (leb 1 µ && leb µ 7) (f .0) in
     (leb-true i 4 (and-inv (leb 1 i) (leb i 4) (g .0) .1), leb-true µ 7 (and-inv (leb 1 µ) (leb µ 7) (g .1) .1), leb-true ν 15 (and-inv (leb 1 ν) (leb ν 15) (f .1) .1))
 
-size-parts : (S : Summary) → sizes S ≡ true → (length (S .classes) ≤ 1024) × (length (S .rows) ≤ 4096) × (length (S .links) ≤ 2048) × (length (S .map) ≤ 1024)
+pub size-parts : (S : Summary) → sizes S ≡ true → (length (S .classes) ≤ 1024) × (length (S .rows) ≤ 4096) × (length (S .links) ≤ 2048) × (length (S .map) ≤ 1024)
 unfolding sizes
 size-parts S e =
     let f = and-inv (leb (length (S .classes)) 1024 && leb (length (S .map)) 1024 && leb (length (S .rows)) 4096) (leb (length (S .links)) 2048) e in

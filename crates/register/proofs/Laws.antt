@@ -1,21 +1,20 @@
--- What each step of judging a register comes to, over lists of bytes: the header's fields, a link's range, the loop over the
--- links, the verdict. Leans on promise's Access and on theory's laws of tests over a list.
-use mathlib.Core.Path.{_≡_, refl, sym, ap, _∙_}
-use mathlib.Core.Bool.{Bool, true, false, cond, _&&_, and-false, and-true}
+-- What each step of judging a register comes to, over lists of bytes: the header's fields, the links, the verdict; and what the
+-- accessors read. Leans on promise's Access.
+use mathlib.Core.Path.{_≡_, sym, ap, _∙_}
+use mathlib.Core.Bool.{true, false, _&&_, and-false}
 use mathlib.Core.List.{List}
-use Prim.Native.Nat.{ℕ, suc, _+_, _*_, _≤_, _<_}
+use Prim.Native.Nat.{ℕ, _+_, _*_, _≤_, _<_}
 use native.Mathlib.Omega.{arith}
-use native.Mathlib.Numerals.{add-one}
-use borrow.Author.Tests.{lt-ltb, le-ltb, le-leb, lt-leb, eq-eqb, ne-eqb, eqb-true, leb-true}
-use lib.Dec.{eqb, leb, ltb}
+use borrow.Author.Tests.{lt-ltb, le-ltb, eq-eqb, ne-eqb, eqb-true, leb-true}
+use lib.Dec.{eqb, leb}
 use lib.ListN.{length}
-use Rattle.meaning.specs.Count.{all, tab, each, ascends}
-use Rattle.meaning.specs.Register.{Link, items, linkOf}
-use Rattle.meaning.specs.WellFormed.{linkIn, linkKey}
+use Rattle.meaning.specs.Count.{tab}
+use Rattle.meaning.specs.Register.{Link, linkOf}
 use Rattle.files.specs.Bytes.{num2}
 use Rattle.files.specs.RegisterFile.{linksOffset, registerSize, linkAt, registerIn, headed, linksFine, fault, accepted, refused, verdictBy, verdict}
-use Rattle.theory.proofs.CountLaws.{and-inv, past, all-and, each-tab, ascends-tab}
+use Rattle.theory.proofs.CountLaws.{and-inv}
 use Rattle.promise.proofs.Access.{items-at, links-at, link-at, readable}
+use Rattle.links.specs.Order.{inOrder}
 use Rattle.register.specs.Told.{OfItems, OfRegister, OfLink}
 
 -- ---- what an accepted register has
@@ -53,69 +52,15 @@ module _ (b : List ℕ) where
   only-length e f g h =
       sym (rw (eq-eqb (num2 b 4) 12 e, eq-eqb (num2 b 6) (linksOffset (num2 b 0)) f, eq-eqb (num2 b 8) (registerSize (num2 b 0) (num2 b 2)) g, eq-eqb (num2 b 10) 0 h))
 
--- ---- the range of the link at a place
+-- ---- the links
 
-module _ (b : List ℕ) (at n : ℕ) where
-  pub no-source : n ≤ num2 b at → false ≡ linkIn n (linkAt b at)
-  unfolding linkIn linkAt
-  no-source h = sym (rw (le-ltb (num2 b at) n h))
-
-  pub no-label : 16 ≤ num2 b (at + 2) → false ≡ linkIn n (linkAt b at)
-  unfolding linkIn linkAt
-  no-label h = sym (rw (le-ltb (num2 b (at + 2)) 16 h, and-false))
-
-  pub only-target : num2 b at < n → num2 b (at + 2) < 16 → ltb (num2 b (at + 4)) n ≡ linkIn n (linkAt b at)
-  unfolding linkIn linkAt
-  only-target h k = sym (rw (lt-ltb (num2 b at) n h, lt-ltb (num2 b (at + 2)) 16 k))
-
--- ---- the loop over the links
-
--- link k where it stands; it is in range and comes after the one before
+-- link k where it stands
 abbrev pub placed : List ℕ → ℕ → ℕ → Link
 placed b n k = linkAt b (linksOffset n + 6 * k)
 
-unfoldable pub leastKey : List ℕ → ℕ → ℕ → ℕ
-leastKey b n k = past (λ i. linkKey (placed b n i)) k
-
-unfoldable pub inOrder : List ℕ → ℕ → ℕ → Bool
-inOrder b n k = linkIn n (placed b n k) && leb (leastKey b n k) (linkKey (placed b n k))
-
-module _ (b : List ℕ) (n k : ℕ) where
-  pub out-of-range : linkIn n (placed b n k) ≡ false → inOrder b n k ≡ false
-  unfolding inOrder
-  out-of-range e = rw e
-
-  pub out-of-order : linkKey (placed b n k) < leastKey b n k → inOrder b n k ≡ false
-  unfolding inOrder
-  out-of-order h = rw (lt-leb (leastKey b n k) (linkKey (placed b n k)) h, and-false)
-
-  pub in-order : linkIn n (placed b n k) ≡ true → leastKey b n k ≤ linkKey (placed b n k) → inOrder b n k ≡ true
-  unfolding inOrder
-  in-order e h = rw (e, le-leb (leastKey b n k) (linkKey (placed b n k)) h)
-
-  pub least-next : linkKey (placed b n k) + 1 ≡ leastKey b n (k + 1)
-  unfolding leastKey past
-  least-next = rw (add-one k, add-one (linkKey (placed b n k)))
-
-pub least-first : (b : List ℕ) (n : ℕ) → 0 ≡ leastKey b n 0
-unfolding leastKey past
-least-first b n = refl
-
-pub all-in-order : (b : List ℕ) (n m : ℕ) → n ≡ num2 b 0 → m ≡ num2 b 2 → all (inOrder b n) m ≡ linksFine (registerIn b)
-unfolding linksFine inOrder leastKey registerIn
-all-in-order b n m e f =
-    rw (e, f)
-    (sym (all-and (λ k. linkIn N (link k)) (λ k. leb (past (λ i. linkKey (link i)) k) (linkKey (link k))) M)
-    ∙ sym (rw (items-at b, each-tab (linkIn N) link M, ascends-tab linkKey link M)))
-  where
-    N : ℕ
-    N = num2 b 0
-
-    M : ℕ
-    M = num2 b 2
-
-    link : ℕ → Link
-    link k = placed b (num2 b 0) k
+pub links-in-order : (b : List ℕ) (n m : ℕ) → n ≡ num2 b 0 → m ≡ num2 b 2 → inOrder n (tab (placed b n) m) ≡ linksFine (registerIn b)
+unfolding linksFine inOrder registerIn
+links-in-order b n m e f = rw (e, f) (sym (rw (items-at b)))
 
 -- ---- the verdict
 

@@ -1,5 +1,5 @@
 // The register file: judged, with document 01's numbers 1, 2 and 3 in their order, and read through accessors that speak of its
-// picture and hand out an Item where the file has an item number. Leans on wire for the bytes.
+// picture and hand out an Item where the file has an item number. Leans on wire for the bytes and on links for their order.
 use files::Refusal;
 use meaning::Direction;
 use names::Item;
@@ -9,17 +9,14 @@ ghost use mathlib.Core.Bool.{_&&_};
 ghost use lib.Dec.{leb};
 ghost use lib.ListN.{length};
 ghost use Rattle.meaning.specs.Register.{items, marksOf, linkOf, near as nearEnd, far as farEnd};
-ghost use Rattle.meaning.specs.WellFormed.{linkIn, linkKey};
 ghost use Rattle.files.specs.Bytes.{num2};
-ghost use Rattle.files.specs.RegisterFile.{linksOffset, registerSize, linkAt, registerIn, headed, linksFine, fault, verdict};
+ghost use Rattle.files.specs.RegisterFile.{linksOffset, registerIn, headed, fault, verdict};
 ghost use Rattle.register.specs.Told.{told, OfLink};
 
 // "Limits: n ≤ 1,024, m ≤ 2,048, labels 0 to 15."
 const MOST_ITEMS: usize = 1024;
 
 const MOST_LINKS: usize = 2048;
-
-const LABELS: u16 = 16;
 
 // The register's item count and link count, or the first thing wrong with it.
 pub enum Judged {
@@ -42,7 +39,7 @@ pub fn judge(reg: &[u8]) -> Judged
     if !right_head(reg, n, m) {
         return Judged::Refused(Refusal::Header);
     }
-    if !links_fine(reg, n, m) {
+    if !links::fine(reg, 12 + 4 * n, m, n) {
         return Judged::Refused(Refusal::Link);
     }
     Judged::Accepted { items: n, links: m }
@@ -79,53 +76,6 @@ fn right_head(reg: &[u8], n: usize, m: usize) -> bool
         return false;
     }
     reg.len() == total
-}
-
-// Every link is in range, and each comes after the one before: `least` is the least key that the next may have.
-fn links_fine(reg: &[u8], n: usize, m: usize) -> bool
-    requires { ⌜ (n ≡ num2 (now reg) 0) × (m ≡ num2 (now reg) 2) × (n ≤ 1024) × (m ≤ 2048) × (registerSize n m ≤ length (now reg)) ⌝ }
-    ensures { λ r. ⌜ r ≡ linksFine (registerIn (now (reg .entry))) ⌝ }
-{
-    let mut least: u64 = 0;
-    let mut k = 0;
-    while k < m {
-        let at = 12 + 4 * n + 6 * k;
-        if !in_range(reg, at, n) {
-            return false;
-        }
-        let key = key_at(reg, at);
-        if key < least {
-            return false;
-        }
-        least = key + 1;
-        k += 1;
-    }
-    true
-}
-
-// Not "a link's item ≥ n, its label > 15", for the link at a place.
-fn in_range(reg: &[u8], at: usize, n: usize) -> bool
-    requires { ⌜ at + 6 ≤ length (now reg) ⌝ }
-    ensures { λ r. ⌜ r ≡ linkIn n (linkAt (now (reg .entry)) at) ⌝ }
-{
-    if n <= wire::two(reg, at) as usize {
-        return false;
-    }
-    if LABELS <= wire::two(reg, at + 2) {
-        return false;
-    }
-    (wire::two(reg, at + 4) as usize) < n
-}
-
-// The three fields of the link at a place as one number, so that "ascending in that order of fields" is one comparison.
-fn key_at(reg: &[u8], at: usize) -> u64
-    requires { ⌜ at + 6 ≤ length (now reg) ⌝ }
-    ensures { λ r. ⌜ (r ≡ linkKey (linkAt (now (reg .entry)) at)) × (r < 281474976710656) ⌝ }
-{
-    let source = wire::two(reg, at) as u64;
-    let label = wire::two(reg, at + 2) as u64;
-    let target = wire::two(reg, at + 4) as u64;
-    (source * 65536 + label) * 65536 + target
 }
 
 // The marks of an item of an accepted register.

@@ -15,8 +15,40 @@ use Rattle.meaning.specs.declared.Direction.the-variants.{Outgoing, Incoming}
 use Rattle.meaning.specs.Level.{alike, classCount, lowestItem, Numbering}
 use Rattle.meaning.specs.Cap.{cap}
 use Rattle.meaning.specs.Summary.{joins}
-use Rattle.meaning.specs.Condense.{rowUnless, rowsThat, by, linksFrom, summaryBy}
+use Rattle.meaning.specs.Condense.{rowUnless, rowsThat, rowsAt, by, linksFrom, summaryBy}
 use Rattle.meaning.specs.WellFormed.{linkKey, way, rowKey}
+
+-- ---- the rows of an item ascend, against any grouping
+
+module _ (µ : ℕ) (R : Register) (grouped : ℕ → ℕ) (g : ℕ) (few : g ≤ 65536) (k x : ℕ) where
+  row-rises : (d : Direction) (l q n : ℕ) → Rising rowKey ((k * 65536 + way d l) * 65536 + q) ((k * 65536 + way d l) * 65536 + suc q) (rowUnless k d l q n)
+  unfolding rowUnless Rising rowKey
+  row-rises d l q zero = omega arith
+  row-rises d l q (suc n) = (omega arith, omega arith)
+
+  way-next : (d : Direction) (l : ℕ) → way d (suc l) ≡ suc (way d l)
+  unfolding way
+  way-next Outgoing l = refl
+  way-next Incoming l = omega arith
+
+  rows-rise : (d : Direction) → Rising rowKey ((k * 65536 + way d 0) * 65536) ((k * 65536 + way d 16) * 65536) (rowsThat µ R grouped g k x d)
+  unfolding rowsThat
+  rows-rise d =
+      rising-join rowKey (λ l. (k * 65536 + way d l) * 65536) _ 16
+      (λ l u.
+      rising-from rowKey ((k * 65536 + way d l) * 65536 + 0) _ _ _ (omega arith)
+      (rising-to rowKey _ ((k * 65536 + way d l) * 65536 + g) _ _ (omega (arith, way-next d l))
+      (rising-join rowKey (λ q. (k * 65536 + way d l) * 65536 + q) _ g (λ q v. row-rises d l q _))))
+
+  item-rises : Rising rowKey (k * 65536 * 65536) (suc k * 65536 * 65536) (rowsAt µ R grouped g k x)
+  unfolding way
+  item-rises =
+      rising-append rowKey (k * 65536 * 65536) ((k * 65536 + 16) * 65536) (suc k * 65536 * 65536) (rowsThat µ R grouped g k x Outgoing) (rowsThat µ R grouped g k x Incoming)
+      (rising-from rowKey ((k * 65536 + 0) * 65536) _ _ _ (omega arith) (rows-rise Outgoing))
+      (rising-to rowKey _ ((k * 65536 + (16 + 16)) * 65536) _ _ (omega arith) (rows-rise Incoming))
+
+  pub item-ascends : ascends rowKey (rowsAt µ R grouped g k x) ≡ true
+  item-ascends = rising-ascends rowKey (k * 65536 * 65536) (suc k * 65536 * 65536) (rowsAt µ R grouped g k x) item-rises
 
 -- ---- how many rows and class links
 
@@ -132,35 +164,11 @@ module _ (µ ν : ℕ) (R : Register) (fine : Fine R) (j : ℕ) (gs cs : List �
   -- ---- their order
 
   module _ (few-classes : c ≤ 65536) (few-groups : g ≤ 65536) where
-    row-rises : (k : ℕ) (d : Direction) (l q n : ℕ) →
-        Rising rowKey ((k * 65536 + way d l) * 65536 + q) ((k * 65536 + way d l) * 65536 + suc q) (rowUnless k d l q n)
-    unfolding rowUnless Rising rowKey
-    row-rises k d l q zero = omega arith
-    row-rises k d l q (suc n) = (omega arith, omega arith)
-
-    way-next : (d : Direction) (l : ℕ) → way d (suc l) ≡ suc (way d l)
-    unfolding way
-    way-next Outgoing l = refl
-    way-next Incoming l = omega arith
-
-    rows-rise : (k : ℕ) (d : Direction) → Rising rowKey ((k * 65536 + way d 0) * 65536) ((k * 65536 + way d 16) * 65536) (rowsThat µ R (by gs) (classCount gs) k (lowestItem cs k) d)
-    unfolding rowsThat
-    rows-rise k d =
-        rising-join rowKey (λ l. (k * 65536 + way d l) * 65536) _ 16
-        (λ l u.
-        rising-from rowKey ((k * 65536 + way d l) * 65536 + 0) _ _ _ (omega arith)
-        (rising-to rowKey _ ((k * 65536 + way d l) * 65536 + g) _ _ (omega (arith, way-next d l))
-        (rising-join rowKey (λ q. (k * 65536 + way d l) * 65536 + q) _ g (λ q v. row-rises k d l q _))))
-
     pub rows-ascend : (i : ℕ) → ascends rowKey ((summaryBy µ ν R gs cs i) .rows) ≡ true
-    unfolding summaryBy way
+    unfolding summaryBy
     rows-ascend i =
         rising-ascends rowKey (0 * 65536 * 65536) (c * 65536 * 65536) _
-        (rising-join rowKey (λ k. k * 65536 * 65536) _ c
-        (λ k u.
-        rising-append rowKey (k * 65536 * 65536) ((k * 65536 + 16) * 65536) (suc k * 65536 * 65536) (rowsThat µ R (by gs) (classCount gs) k (lowestItem cs k) Outgoing) (rowsThat µ R (by gs) (classCount gs) k (lowestItem cs k) Incoming)
-        (rising-from rowKey ((k * 65536 + 0) * 65536) _ _ _ (omega arith) (rows-rise k Outgoing))
-        (rising-to rowKey _ ((k * 65536 + (16 + 16)) * 65536) _ _ (omega arith) (rows-rise k Incoming))))
+        (rising-join rowKey (λ k. k * 65536 * 65536) _ c (λ k u. item-rises µ R (by gs) g few-groups k (lowestItem cs k)))
 
     link-rises : (k l k′ : ℕ) (t : Bool) →
         Rising linkKey ((k * 65536 + l) * 65536 + k′) ((k * 65536 + l) * 65536 + suc k′) (cond t (record { source = k; label = l; target = k′ } ∷ []) [])

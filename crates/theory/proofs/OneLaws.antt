@@ -22,7 +22,7 @@ use Rattle.theory.proofs.ShapeLaws.{row-key, own-direction, link-in, we
 
 -- ---- a key tells the fields
 
-three : (a b c x y z : ℕ) → b < 65536 → c < 65536 → y < 65536 → z < 65536 → (a * 65536 + b) * 65536 + c ≡ (x * 65536 + y) * 65536 + z → (a ≡ x) × (b ≡ y) × (c ≡ z)
+pub three : (a b c x y z : ℕ) → b < 65536 → c < 65536 → y < 65536 → z < 65536 → (a * 65536 + b) * 65536 + c ≡ (x * 65536 + y) * 65536 + z → (a ≡ x) × (b ≡ y) × (c ≡ z)
 three a b c x y z hb hc hy hz e =
     let f : a * 65536 + b ≡ x * 65536 + y = omega arith in
     (omega arith, omega arith, omega arith)

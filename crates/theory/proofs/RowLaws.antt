@@ -62,6 +62,12 @@ module _ (µ : ℕ) (R : Register) (grouped : ℕ → ℕ) (g : ℕ) where
           total-append adds (rowsThat µ R grouped g k x Outgoing) _
           ∙ rw (rows-other k x Outgoing (rw (eqb-refl k, e)), rows-own x Incoming (rw (eqb-refl k, e)), e) (omega arith)
 
+  -- what the rows of an item state
+  pub rows-state : (k : ℕ) (d : Direction) (l q x : ℕ) → l < 16 → q < g →
+      total (λ r. cond (rowFor k d l r && eqb (r .group) q) (r .count) 0) (rowsAt µ R grouped g k x) ≡ cap µ (neighbours R d l (λ y. eqb (grouped y) q) x)
+  unfolding adds value
+  rows-state k d l q x u v = both-ways k d l q u v x d refl
+
   -- ---- the rows of two items, compared
 
   -- equal rows give equal counts

@@ -100,7 +100,7 @@ module _ {A : Type 0} (key : A → ℕ) where
       let r = one-passes p f d s i (ascends-rest key a s e) (omega arith) t k in
       by-bool (p a) (λ u. absurd (omega (arith, k a u))) (λ u. rw (u, r) (omega arith))
 
-same-direction : (d e : Direction) → sameWay d e ≡ true → d ≡ e
+pub same-direction : (d e : Direction) → sameWay d e ≡ true → d ≡ e
 unfolding sameWay
 same-direction Outgoing Outgoing h = refl
 same-direction Outgoing Incoming h = absurd (false≢true h)

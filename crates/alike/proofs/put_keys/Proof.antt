@@ -5,8 +5,9 @@ use Prim.Native.Nat.{_-_, _≤_}
 use lib.ListN.{length, length-set}
 use Rattle.meaning.specs.Register.{linkOf}
 use Rattle.files.specs.RegisterFile.{registerIn}
-use Rattle.alike.specs.Step.{keyOf, Writes}
-use Rattle.alike.proofs.Keys.{writes-none, writes-next}
+use Rattle.lists.specs.Writes.{Writes}
+use Rattle.lists.proofs.Laws.{writes-none, writes-next}
+use Rattle.alike.specs.Step.{keyOf}
 use borrow.Author.Needs.{needs}
 use Rattle.alike.proofs.put_keys.Statement.{statement}
 use Rattle.alike.proofs.put_keys.Tie as tie
@@ -18,7 +19,7 @@ abbrev μ-loop : tie.MeasureT-loop
 μ-loop reg n m cs way from keys₀ k₀ keys k = m - k
 
 loop-holds : tie.Need-loop-holds Inv-loop μ-loop
-loop-holds c = (omega arith, refl, writes-none _ _ 0 _)
+loop-holds c = (omega arith, refl, writes-none _ _ _)
 
 key-requires : tie.Need-key-requires Inv-loop μ-loop
 key-requires c κs =
@@ -44,7 +45,7 @@ loop-less c = omega arith
 loop-again : tie.Need-loop-again Inv-loop μ-loop
 loop-again c =
     let l = c .before .before .loop in
-    (omega arith, simp length-set (l .inv .1), writes-next _ _ 0 _ _ _ _ (omega arith) (c .key .ensures) (l .inv .2))
+    (omega arith, simp length-set (l .inv .1), writes-next _ _ _ _ _ _ (omega arith) (c .key .ensures) (l .inv .2))
 
 same-length : tie.Need-same-length Inv-loop μ-loop
 same-length c = omega arith

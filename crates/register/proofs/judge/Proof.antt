@@ -5,7 +5,7 @@ use Prim.Native.Nat.{ℕ}
 use native.Mathlib.Omega.{arith}
 use borrow.Author.Tests.{not-true, not-false}
 use lib.Dec.{leb}
-use Rattle.register.proofs.Laws.{short, too-many, bad-head, bad-link, all-right, within-limits, head-long}
+use Rattle.register.proofs.Laws.{links-in-order, short, too-many, bad-head, bad-link, all-right, within-limits, head-long}
 use borrow.Author.Needs.{needs}
 use Rattle.register.proofs.judge.Statement.{statement}
 use Rattle.register.proofs.judge.Tie as tie
@@ -53,15 +53,20 @@ returns-3 c =
     let few = limits n m (sym (h .before .before .few .ensures) ∙ not-false _ (h .before .if2 .left)) in
     bad-head _ (omega arith) few (sym (h .right-head .ensures) ∙ not-true _ (c .if3 .taken))
 
-links-fine-requires : tie.Need-links-fine-requires
-links-fine-requires c κs =
+mul-fine : tie.Need-mul-fine
+mul-fine c = search needs
+
+add-fine : tie.Need-add-fine
+add-fine c = search needs
+
+fine-requires : tie.Need-fine-requires
+fine-requires c κs =
     let h = c .before in
     let n = h .before .before .before .before .two .ensures in
     let m = h .before .before .before .two2 .ensures in
     let few = limits n m (sym (h .before .before .few .ensures) ∙ not-false _ (h .before .if2 .left)) in
     let head = sym (h .right-head .ensures) ∙ not-false _ (c .if3 .left) in
-    let w = within-limits _ (omega arith) few in
-    (n, m, omega (arith, n, w), omega (arith, m, w), omega (arith, head-long _ (omega arith) few head, n, m))
+    omega (arith, head-long _ (omega arith) few head, n, m)
 
 returns-4 : tie.Need-returns-4
 returns-4 c =
@@ -70,7 +75,7 @@ returns-4 c =
     let m = h .before .before .before .two2 .ensures in
     let few = limits n m (sym (h .before .before .few .ensures) ∙ not-false _ (h .before .if2 .left)) in
     let head = sym (h .right-head .ensures) ∙ not-false _ (c .before .before .if3 .left) in
-    bad-link _ (omega arith) few head (sym (c .before .links-fine .ensures) ∙ not-true _ (c .if4 .taken))
+    bad-link _ (omega arith) few head (sym (links-in-order _ _ _ n m) ∙ sym (c .before .fine .ensures) ∙ not-true _ (c .if4 .taken))
 
 returns-5 : tie.Need-returns-5
 returns-5 c =
@@ -79,7 +84,8 @@ returns-5 c =
     let m = h .before .before .before .two2 .ensures in
     let few = limits n m (sym (h .before .before .few .ensures) ∙ not-false _ (h .before .if2 .left)) in
     let head = sym (h .right-head .ensures) ∙ not-false _ (c .before .before .if3 .left) in
-    rw (n, m) (all-right _ (omega arith) few head (sym (c .before .links-fine .ensures) ∙ not-false _ (c .if4 .left)))
+    let fine = sym (links-in-order _ _ _ n m) ∙ sym (c .before .fine .ensures) ∙ not-false _ (c .if4 .left) in
+    rw (n, m) (all-right _ (omega arith) few head fine)
 
 pub judge-spec : {M : Type 1} → statement M
 judge-spec =
@@ -94,6 +100,8 @@ judge-spec =
     returns-2
     right-head-requires
     returns-3
-    links-fine-requires
+    mul-fine
+    add-fine
+    fine-requires
     returns-4
     returns-5)

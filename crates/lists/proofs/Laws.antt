@@ -1,0 +1,55 @@
+-- A list read back place by place, and what writes from a place on come to. Leans on theory's CountLaws and on lib.Seq.
+use mathlib.Core.Path.{_≡_, refl, sym, ap, _∙_}
+use mathlib.Core.List.{List, [], _∷_, _++_}
+use Prim.Native.Nat.{ℕ, zero, suc, _+_, _-_, _*_, _≤_, _<_}
+use native.Mathlib.Omega.{arith}
+use lib.ListN.{length, getD, take, set, length-set, length-append}
+use lib.Seq.{take-suc, getD-set-same, getD-set-other, ext-getD, length-take-le, getD-take}
+use Rattle.meaning.specs.Count.{tab}
+use Rattle.theory.proofs.CountLaws.{by-eq, by-bool, length-tab, getD-tab, tab-same}
+use Rattle.lists.specs.Writes.{Writes}
+
+-- ---- a list, place by place
+
+pub front : (s : List ℕ) (n : ℕ) → n ≤ length s → take n s ≡ tab (λ i. getD s i 0) n
+unfolding tab
+front s zero h = refl
+front s (suc n) h = take-suc s n 0 (omega arith) ∙ ap (λ (l : List ℕ). l ++ (getD s n 0 ∷ [])) (front s n (omega arith))
+
+pub places : {A : Type 0} (d : A) (s : List A) → tab (λ j. getD s j d) (length s) ≡ s
+places d s =
+    let l = length-tab (λ j. getD s j d) (length s) in
+    ext-getD d (tab (λ j. getD s j d) (length s)) s l (λ i h. getD-tab (λ j. getD s j d) d (length s) i (omega (arith, l)))
+
+pub tab-more : {A : Type 0} (f : ℕ → A) (m n : ℕ) → tab f (m + n) ≡ tab f m ++ tab (λ i. f (m + i)) n
+unfolding tab
+tab-more f m zero = let z : m + 0 ≡ m = omega arith in rw z (sym (mathlib.Core.List.append-nil (tab f m)))
+tab-more f m (suc n) =
+    let z : m + suc n ≡ suc (m + n) = omega arith in
+    rw z (ap (λ (l : List _). l ++ (f (m + n) ∷ [])) (tab-more f m n) ∙ mathlib.Core.List.append-assoc (tab f m) (tab (λ i. f (m + i)) n) (f (m + n) ∷ []))
+
+-- ---- writing
+
+module _ (t : List ℕ) (from : ℕ) (f : ℕ → ℕ) where
+  pub writes-none : Writes t t from 0 f
+  writes-none = record { says = λ k h. absurd (omega arith); kept = λ i h. refl; long = refl }
+
+  pub writes-next : (u : List ℕ) (k v : ℕ) → from + k < length u → v ≡ f k → Writes t u from k f → Writes t (set u (from + k) v) from (k + 1) f
+  writes-next u k v h e w = record {
+    says = λ j g.
+        by-eq j k
+        (λ q. rw q (getD-set-same u (from + k) v 0 h ∙ e))
+        (λ q. getD-set-other u (from + k) (from + j) v 0 (λ z. q (omega arith)) ∙ w .says j (omega arith));
+    kept = λ i g. getD-set-other u (from + k) i v 0 (λ z. omega arith) ∙ w .kept i g;
+    long = simp length-set (w .long);
+  }
+
+-- two stretches, one behind the other
+pub two-written : (t u v : List ℕ) (m : ℕ) (f g : ℕ → ℕ) → m + m ≤ length t → Writes t u 0 m f → Writes u v m m g → take (2 * m) v ≡ tab f m ++ tab g m
+two-written t u v m f g h w x =
+    let z : 2 * m ≡ m + m = omega arith in
+    rw z
+    (front v (m + m) (omega (arith, w .long, x .long))
+    ∙ tab-more (λ i. getD v i 0) m m
+    ∙ ap (λ (l : List ℕ). l ++ tab (λ i. getD v (m + i) 0) m) (tab-same (λ i. getD v i 0) f m (λ i h. let q : i ≡ 0 + i = omega arith in x .kept i h ∙ ap (λ (j : ℕ). getD u j 0) q ∙ w .says i h))
+    ∙ ap (λ (l : List ℕ). tab f m ++ l) (tab-same (λ i. getD v (m + i) 0) g m (λ i u. x .says i u)))

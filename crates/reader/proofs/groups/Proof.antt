@@ -1,0 +1,15 @@
+-- The group count is a number of the header.
+use Rattle.files.specs.SummaryFile.{summaryIn}
+use borrow.Author.Needs.{needs}
+use Rattle.reader.proofs.groups.Statement.{statement}
+use Rattle.reader.proofs.groups.Tie as tie
+
+head-requires : tie.Need-head-requires
+head-requires c κs = search needs
+
+returns : tie.Need-returns
+unfolding summaryIn
+returns c = c .head .ensures
+
+pub groups-spec : {M : Type 1} → statement M
+groups-spec = tie.close (tie.spec head-requires returns)

@@ -1,0 +1,23 @@
+-- The group of a row.
+use mathlib.Core.Path.{sym, ap, _∙_}
+use Rattle.meaning.specs.Summary.{Row}
+use Rattle.files.specs.SummaryFile.{rowIs}
+use borrow.Author.Needs.{needs}
+use Rattle.reader.proofs.row_group.Statement.{statement}
+use Rattle.reader.proofs.row_group.Tie as tie
+
+row-place-requires : tie.Need-row-place-requires
+row-place-requires c κs = search needs
+
+add-two : tie.Need-add-two
+add-two c = search needs
+
+two-requires : tie.Need-two-requires
+two-requires c κs = search needs
+
+returns : tie.Need-returns
+unfolding rowIs
+returns c = c .two .ensures ∙ sym (ap (λ (a : Row). a .group) (c .before .row-place .ensures .0))
+
+pub row-group-spec : {M : Type 1} → statement M
+row-group-spec = tie.close (tie.spec row-place-requires add-two two-requires returns)

@@ -1,0 +1,2 @@
+-- Laws of ascending keys.
+pub mod Laws

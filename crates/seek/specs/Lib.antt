@@ -1,0 +1,2 @@
+-- What it means to find keys.
+pub mod Keys
