@@ -30,6 +30,10 @@ extern "C" {
 int32_t hestovane_condense(uint16_t level, uint16_t neighbour_cap, uint16_t class_cap,
                            const uint8_t *reg, size_t reg_len, uint8_t *out, size_t out_len);
 
+/* Whether the proposed summary is an abstraction of the register, for any grouping and numbering: 1, 0, or refused with 1, 2, 3, 6 in that
+ * order. */
+int32_t hestovane_check(const uint8_t *reg, size_t reg_len, const uint8_t *sum, size_t sum_len);
+
 /* Whether the question holds at the item of the register: 1, 0, or refused with 1, 2, 3, 5, 8 in that order. */
 int32_t hestovane_ask_register(const uint8_t *reg, size_t reg_len, const uint8_t *q, size_t q_len, uint16_t item);
 

@@ -11,13 +11,14 @@ use lib.Dec.{leb}
 use lib.ListN.{length}
 use Rattle.meaning.specs.Register.{items}
 use Rattle.meaning.specs.WellFormed.{inRange}
+use Rattle.meaning.specs.Check.{fits}
 use Rattle.meaning.specs.Condense.{summaryOf}
 use Rattle.files.specs.RegisterFile.{registerIn, fault, verdict, verdictBy, accepted, refused}
 use Rattle.files.specs.RegisterFile as file
 use Rattle.files.specs.QuestionFile.{question}
-use Rattle.files.specs.Answers.{Answer, Returned, number, word, wrote, returned, left, into, unless, condense, askTree, askRegister}
+use Rattle.files.specs.Answers.{Answer, Returned, number, word, wrote, returned, left, into, unless, condense, check, askTree, askRegister}
 use Rattle.files.specs.Answers
-use Rattle.files.specs.SummaryFile.{summaryBytes}
+use Rattle.files.specs.SummaryFile.{summaryBytes, summaryIn, wellFormedFile}
 use Rattle.files.specs.Refusals.{numberOf}
 use Rattle.files.specs.declared.Refusal.{Refusal}
 use Rattle.files.specs.declared.Refusal.the-variants.{Range}
@@ -95,6 +96,22 @@ never-refused a b r e f = let z : _≡_ {A = ℕ} 0 1 = cc in omega arith
 
 pub same-word : (a : Asked) (s t : Bool) → a ≡ asks.Said s → a ≡ asks.Said t → s ≡ t
 same-word a s t e f = cc
+
+-- ---- checking
+
+module _ (b s : List ℕ) where
+  pub check-refused : (k : ℕ) → refused k ≡ verdict b → number k ≡ returned (check b s)
+  unfolding check
+  check-refused k e = refused-first b k _ e
+
+  module _ (f : fault b ≡ 0) where
+    pub check-six : wellFormedFile s ≡ false → number 6 ≡ returned (check b s)
+    unfolding check unless returned
+    check-six e = sym (rw (f, e))
+
+    pub check-said : wellFormedFile s ≡ true → word (fits (registerIn b) (summaryIn s)) ≡ returned (check b s)
+    unfolding check unless returned
+    check-said e = sym (rw (f, e))
 
 -- ---- condensing
 

@@ -95,6 +95,29 @@ fn condense_accepted(
     Wrote::Refused(Refusal::Range)
 }
 
+// Whether the proposed summary is an abstraction of the register: "check 1, 2, 3, 6".
+pub fn check(reg: &[u8], s: &[u8]) -> Said
+    ensures { λ r. ⌜ told r ≡ returned (answers.check (now (reg .entry)) (now (s .entry))) ⌝ }
+{
+    let judged = register::judge(reg);
+    match judged {
+        Judged::Accepted { items, links } => check_accepted(reg, items, links, s),
+        Judged::Refused(refusal) => Said::Refused(refusal),
+    }
+}
+
+// The register is accepted: "6: summary not well formed", and then the answer.
+fn check_accepted(reg: &[u8], n: usize, m: usize, s: &[u8]) -> Said
+    requires { ⌜ OfRegister (now reg) n m ⌝ }
+    ensures { λ r. ⌜ told r ≡ returned (answers.check (now (reg .entry)) (now (s .entry))) ⌝ }
+{
+    let mut keys = [0u64; 4096];
+    if !wellformed::judge(s, &mut keys) {
+        return Said::Refused(Refusal::Summary);
+    }
+    spoken(proposal::check(reg, n, m, s, &keys))
+}
+
 fn spoken(yes: bool) -> Said
     ensures { λ r. ⌜ told r ≡ word yes ⌝ }
 {
@@ -146,6 +169,13 @@ pub extern "C" fn hestovane_condense(i: u16, mu: u16, nu: u16, reg: &[u8], out: 
     ensures { λ _. ⌜ now (out .exit) ≡ left (answers.condense i mu nu (now (reg .entry)) (length (now (out .entry)))) (now (out .entry)) ⌝ }
 {
     measured(condense(reg, i, mu, nu, out))
+}
+
+#[no_mangle]
+pub extern "C" fn hestovane_check(reg: &[u8], s: &[u8]) -> i32
+    ensures { λ r. ⌜ r ≡ code (returned (answers.check (now (reg .entry)) (now (s .entry)))) ⌝ }
+{
+    coded(check(reg, s))
 }
 
 #[no_mangle]

@@ -17,7 +17,7 @@ use Rattle.meaning.specs.Check.{Abstraction, rowRight, imageStands, isImage, fi
 use Rattle.theory.proofs.MatchLaws.{joins-parts, joins-make}
 
 module _ (R : Register) (S : Summary) where
-  rows-right : (x l q : ℕ) (d : Direction) → rowRight R S x l q Outgoing && rowRight R S x l q Incoming ≡ true →
+  pub rows-right : (x l q : ℕ) (d : Direction) → rowRight R S x l q Outgoing && rowRight R S x l q Incoming ≡ true →
       cap (S .nearCap) (neighbours R d l (λ y. eqb (groupAt S y) q) x) ≡ stated S (classAt S x) d l q
   unfolding rowRight
   rows-right x l q Outgoing e = eqb-true _ _ (and-inv (rowRight R S x l q Outgoing) (rowRight R S x l q Incoming) e .0)

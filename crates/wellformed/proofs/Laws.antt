@@ -141,3 +141,14 @@ sized-of s e z r =
     let p = size-parts (summaryIn s) z in
     let q = in-range _ _ _ r in
     record { exact-is = e; few-classes = p .0; few-items = p .3; few-rows = p .1; few-links = p .2; near-low = q .1; class-low = q .2 }
+
+-- what a well-formed file has
+pub well-file : (s : List ℕ) → wellFormedFile s ≡ true → (exact s ≡ true) × (wellFormed (summaryIn s) ≡ true)
+unfolding wellFormedFile
+well-file s e = by-bool (exact s) (λ h. (h, rw h at e)) (λ h. no {t = false} (rw h at e) refl)
+
+pub sized-file : (s : List ℕ) → wellFormedFile s ≡ true → Sized s
+sized-file s e = let w = well-file s e in let p = well-parts (summaryIn s) (w .1) in sized-of s (w .0) (p .1) (p .0)
+
+pub groups-file : (s : List ℕ) → wellFormedFile s ≡ true → summaryIn s .groups ≤ 1024
+groups-file s e = omega (arith, groups-few (summaryIn s) (well-parts (summaryIn s) (well-file s e .1) .4), sized-file s e .few-classes)

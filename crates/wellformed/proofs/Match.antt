@@ -125,9 +125,9 @@ module _ (S : Summary) (fine : numbers S ≡ true) where
         ⊎-elim (λ u. let r = of-tab (askedKey S Outgoing) n v u in (Outgoing, r .0, r .1, r .2)) (λ u. let r = of-tab (askedKey S Incoming) n v u in (Incoming, r .0, r .1, r .2)) (or-inv _ _ f)
 
     -- a row stands for a class, direction, label and group where its key is there
-    row-stands : (k : ℕ) (d : Direction) (l q : ℕ) → l < 16 → q < S .groups → hasRow S k d l q ≡ true → Has (keyFor k d l q)
+    pub row-stands : (k : ℕ) (d : Direction) (l q : ℕ) → hasRow S k d l q ≡ true → any (eqb (keyFor k d l q)) (rowKeys S) ≡ true
     unfolding hasRow rowOf
-    row-stands k d l q u v e =
+    row-stands k d l q e =
         let r = any-place (λ r. rowFor k d l r && eqb (r .group) q) noRow (S .rows) e in
         let p = row-for-parts k d l q (rowOf S (r .0)) (r .2) in
         subst (λ (v : ℕ). Has v) (row-of-key S (r .0) ∙ rw (p .0, p .1, p .2, p .3)) (has-row (r .0) (r .1))
@@ -231,7 +231,7 @@ module _ (S : Summary) (fine : numbers S ≡ true) where
             let m = members e in
             are-matched (λ k d l q u v. bool-iff _ _
             (λ f.
-            let r = row-had (keyFor k d l q) (row-stands k d l q u v f) in
+            let r = row-had (keyFor k d l q) (row-stands k d l q f) in
             asks-has k d l q u v (subst (λ (v : ℕ). Asks v) (r .2) (m .1 (r .0) (r .1))))
             (λ f.
             let r = link-asked (keyFor k d l q) (link-asks k d l q f) in
@@ -246,7 +246,7 @@ module _ (S : Summary) (fine : numbers S ≡ true) where
                 let f = link-at j h in
                 let n = near-far d a (length (S .classes)) f in
                 let g = group-at (far d a) (n .1) in
-                row-stands (near d a) d (a .label) _ (f .1) g
+                row-stands (near d a) d (a .label) _
                 (matched e (near d a) d (a .label) _ (n .0) (f .1) g ∙ asks-has (near d a) d (a .label) _ (f .1) g (asks-link d j h))
 
             had : (j : ℕ) → j < length (S .rows) → Asks (rowKey (rowOf S j))
