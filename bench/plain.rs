@@ -35,16 +35,16 @@ impl Hasher for Mixed {
 
 type Numbers<Key> = HashMap<Key, u16, BuildHasherDefault<Mixed>>;
 
-struct Register {
-    marks: Vec<u32>,
-    links: Vec<(u16, u16, u16)>,
+pub struct Register {
+    pub marks: Vec<u32>,
+    pub links: Vec<(u16, u16, u16)>,
 }
 
-fn two(bytes: &[u8], at: usize) -> u16 {
+pub fn two(bytes: &[u8], at: usize) -> u16 {
     u16::from_be_bytes([bytes[at], bytes[at + 1]])
 }
 
-fn judged(bytes: &[u8]) -> Result<Register, i32> {
+pub fn judged(bytes: &[u8]) -> Result<Register, i32> {
     if bytes.len() < 12 {
         return Err(1);
     }
@@ -72,12 +72,12 @@ fn judged(bytes: &[u8]) -> Result<Register, i32> {
 }
 
 /// The neighbours of every item, both ways: those of x are `ends[starts[x]..starts[x + 1]]`, each with its way.
-struct Neighbours {
+pub struct Neighbours {
     starts: Vec<usize>,
     ends: Vec<(u16, u16)>,
 }
 
-fn neighbours(register: &Register) -> Neighbours {
+pub fn neighbours(register: &Register) -> Neighbours {
     let n = register.marks.len();
     let mut starts = vec![0; n + 1];
     for &(source, _, target) in &register.links {
@@ -103,12 +103,12 @@ fn neighbours(register: &Register) -> Neighbours {
 
 /// The rows of every item against a grouping: those of x are `rows[starts[x]..starts[x + 1]]`, each
 /// way << 24 | group << 8 | count.
-struct Rows {
-    starts: Vec<usize>,
-    rows: Vec<u64>,
+pub struct Rows {
+    pub starts: Vec<usize>,
+    pub rows: Vec<u64>,
 }
 
-fn rows(near: &Neighbours, groups: &[u16], cap: u64) -> Rows {
+pub fn rows(near: &Neighbours, groups: &[u16], cap: u64) -> Rows {
     let mut starts = Vec::with_capacity(groups.len() + 1);
     let mut rows: Vec<u64> = Vec::with_capacity(near.ends.len());
     let mut keys = vec![];
