@@ -10,6 +10,9 @@ ghost use Rattle.meaning.specs.Summary as meant;
 ghost use Rattle.files.specs.SummaryFile.{wayFrom, labelFrom, summaryIn, wellFormedFile};
 ghost use Rattle.wellformed.specs.Keys.{Keyed};
 
+// "No row means count zero."
+const NONE: u16 = 0;
+
 // The neighbour count that the summary states for class k, that way, and group q; `keys` begins with the keys of its rows.
 pub fn stated(s: &[u8], keys: &[u64], k: Class, way: u16, q: Group) -> u16
     requires { ⌜ (wellFormedFile (now s) ≡ true) × Keyed true (summaryIn (now s)) (now keys) × (length (now keys) ≡ 4096) × (way < 32) ⌝ }
@@ -19,10 +22,10 @@ pub fn stated(s: &[u8], keys: &[u64], k: Class, way: u16, q: Group) -> u16
     let r = reader::rows(s);
     let at = seek::find(keys, r, key);
     if at == r {
-        return 0;
+        return NONE;
     }
     if keys[at] != key {
-        return 0;
+        return NONE;
     }
     reader::row_count(s, at)
 }
