@@ -41,9 +41,9 @@ fn exact(s: &[u8]) -> bool
     if s.len() < 24 {
         return false;
     }
-    let rows = 24 + 8 * wire::two(s, 6) as usize;
-    let links = rows + 8 * wire::two(s, 10) as usize;
-    let map = links + 6 * wire::two(s, 12) as usize;
+    let rows = 24 + 2 * summary::CLASS * wire::two(s, 6) as usize;
+    let links = rows + 2 * summary::ROW * wire::two(s, 10) as usize;
+    let map = links + 2 * summary::EDGE * wire::two(s, 12) as usize;
     if wire::two(s, 16) != 24 {
         return false;
     }

@@ -9,17 +9,23 @@ use Rattle.wellformed.proofs.exact.Tie as tie
 returns : tie.Need-returns
 returns c = not-laid _ (λ l. omega (arith, c .if1 .taken, l .long))
 
+mul-rows : tie.Need-mul-rows
+mul-rows c = search needs
+
 two-requires : tie.Need-two-requires
 two-requires c κs = search needs
 
 cast-rows : tie.Need-cast-rows
 cast-rows c = search needs
 
-mul-rows : tie.Need-mul-rows
-mul-rows c = search needs
+mul-rows-2 : tie.Need-mul-rows-2
+mul-rows-2 c = search needs
 
 add-rows : tie.Need-add-rows
 add-rows c = search needs
+
+mul-links : tie.Need-mul-links
+mul-links c = search needs
 
 two-requires-2 : tie.Need-two-requires-2
 two-requires-2 c κs = search needs
@@ -27,11 +33,14 @@ two-requires-2 c κs = search needs
 cast-links : tie.Need-cast-links
 cast-links c = search needs
 
-mul-links : tie.Need-mul-links
-mul-links c = search needs
+mul-links-2 : tie.Need-mul-links-2
+mul-links-2 c = search needs
 
 add-links : tie.Need-add-links
 add-links c = search needs
+
+mul-map : tie.Need-mul-map
+mul-map c = search needs
 
 two-requires-3 : tie.Need-two-requires-3
 two-requires-3 c κs = search needs
@@ -39,8 +48,8 @@ two-requires-3 c κs = search needs
 cast-map : tie.Need-cast-map
 cast-map c = search needs
 
-mul-map : tie.Need-mul-map
-mul-map c = search needs
+mul-map-2 : tie.Need-mul-map-2
+mul-map-2 c = search needs
 
 add-map : tie.Need-add-map
 add-map c = search needs
@@ -112,17 +121,20 @@ exact-spec =
     tie.close
     (tie.spec
     returns
+    mul-rows
     two-requires
     cast-rows
-    mul-rows
+    mul-rows-2
     add-rows
+    mul-links
     two-requires-2
     cast-links
-    mul-links
+    mul-links-2
     add-links
+    mul-map
     two-requires-3
     cast-map
-    mul-map
+    mul-map-2
     add-map
     two-requires-4
     returns-2
