@@ -10,6 +10,7 @@ use crate::link::Link;
 use crate::numbers::Item;
 use crate::question::entry;
 use crate::question_generator::damaged_question;
+use crate::refusal::Refusal;
 use crate::register::Register;
 use std::io::{self, Write};
 use std::ops::Range;
@@ -26,9 +27,13 @@ pub fn print(out: &mut impl Write) -> io::Result<()> {
     print_around(out)
 }
 
-/// Yes, no, or the digit of the refusal.
 fn answer(register: &[u8], question: &[u8], item: usize) -> char {
-    match ask_register(register, question, Item(item)) {
+    letter(ask_register(register, question, Item(item)))
+}
+
+/// Yes, no, or the digit of the refusal.
+pub fn letter(answer: Result<bool, Refusal>) -> char {
+    match answer {
         Ok(true) => 'y',
         Ok(false) => 'n',
         Err(refusal) => char::from(b'0' + refusal.number()),

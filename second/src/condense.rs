@@ -31,7 +31,7 @@ pub fn condense(
 }
 
 /// "The classes of a summary are those of level i; its groups are those of level i − 1."
-fn summary_of(
+pub fn summary_of(
     register: &Register,
     level: usize,
     neighbour_cap: usize,

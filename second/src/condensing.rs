@@ -224,7 +224,7 @@ fn print_condensed(out: &mut impl Write) -> io::Result<()> {
     Ok(())
 }
 
-fn thrown_level_and_caps(dice: &mut Dice) -> LevelAndCaps {
+pub fn thrown_level_and_caps(dice: &mut Dice) -> LevelAndCaps {
     let level = 1 + dice.below(4);
     let neighbour_cap = 1 + dice.below(7);
     let class_cap = 1 + dice.below(15);

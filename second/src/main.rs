@@ -1,13 +1,15 @@
 //! `second`: crane registers, their summaries, and questions on both, written a second time.
 //! Without an argument it judges a fixed set of registers, asks a fixed set of questions, condenses
-//! a fixed set of registers, and prints one line for each case; `second condense` condenses the
-//! register on standard input and prints its summary.
+//! a fixed set of registers, checks a fixed set of proposed summaries, and prints one line for each
+//! case; `second condense` condenses the register on standard input and prints its summary.
 
 mod answers;
 mod asking;
 mod bytes;
 mod caps;
 mod cases;
+mod check;
+mod checking;
 mod condense;
 mod condensing;
 mod generator;
@@ -15,6 +17,7 @@ mod link;
 mod neighbours;
 mod numbers;
 mod program;
+mod proposed;
 mod question;
 mod question_generator;
 mod refusal;
@@ -22,10 +25,6 @@ mod register;
 mod shapes;
 mod summary;
 mod wellformed;
-
-// No line that `second` prints needs the check yet; the tests hold it to the document.
-#[cfg_attr(not(test), expect(dead_code))]
-mod check;
 
 #[cfg(test)]
 mod tests;
@@ -42,6 +41,7 @@ fn main() -> io::Result<ExitCode> {
             cases::print(&mut out)?;
             asking::print(&mut out)?;
             condensing::print(&mut out)?;
+            checking::print(&mut out)?;
         }
         [word] if word == "condense" => program::run(io::stdin().lock(), &mut out)?,
         _ => {

@@ -1,4 +1,5 @@
-//! Registers made to be condensed: register A, nine shapes of n items, n from 1 to 1,024, and the
+//! Registers made to be condensed or checked: register A, register B, which is A with item 5 passed
+//! (marks 6 in place of 10), the empty register, nine shapes of n items, n from 1 to 1,024, and the
 //! labelled register, which is thrown.
 //!
 //! Shapes. The links always stand in the register's order; the items are x, 0 to n − 1.
@@ -34,6 +35,18 @@ pub const SHAPES: [fn(usize) -> Register; 9] =
 /// label 0: 0 to 3, 1 to 4, 2 to 5."
 pub fn register_a() -> Register {
     register(vec![1, 1, 1, 6, 6, 10], [(0, 0, 3), (1, 0, 4), (2, 0, 5)])
+}
+
+/// A with item 5 passed.
+pub fn register_b() -> Register {
+    let mut register = register_a();
+    register.marks[5] = 6;
+    register
+}
+
+/// "A register with n = 0 is accepted."
+pub fn empty_register() -> Register {
+    register(vec![], [])
 }
 
 pub fn labelled_register(dice: &mut Dice) -> Register {

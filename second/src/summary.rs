@@ -15,12 +15,14 @@ pub const MAPPED: usize = 2;
 /// No summary file is longer.
 pub const MOST_LENGTH: usize = 55_320;
 
+#[derive(Clone, Copy)]
 pub struct ClassEntry {
     pub marks: u32,
     pub group: Group,
     pub count: usize,
 }
 
+#[derive(Clone, Copy)]
 pub struct Row {
     pub class: Class,
     pub way: Way,

@@ -1,9 +1,10 @@
 //! The tests: the document's examples by number, its limits, the refusals and their orders, the
-//! law that a summary answers as its register does, and the printed cases of asking and of
-//! condensing. What they share stands here.
+//! law that a summary answers as its register does, and the printed cases of asking, of condensing
+//! and of checking. What they share stands here.
 
 mod asking;
 mod check;
+mod checking;
 mod condensing;
 mod examples;
 mod limits;

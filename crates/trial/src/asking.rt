@@ -7,7 +7,7 @@ use casework::made;
 use casework::thrown;
 use hestovane::Said;
 
-fn letter(said: Said) -> u8 {
+pub fn letter(said: Said) -> u8 {
     match said {
         Said::Yes => b'y',
         Said::No => b'n',

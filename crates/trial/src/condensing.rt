@@ -14,14 +14,14 @@ use condense::Wrote;
 ghost use Prim.Native.Nat.{_≤_};
 
 // The level i, the neighbour cap µ, the class cap ν.
-struct Caps {
-    i: u16,
-    mu: u16,
-    nu: u16,
+pub struct Caps {
+    pub i: u16,
+    pub mu: u16,
+    pub nu: u16,
 }
 
 impl Caps {
-    fn of(i: usize, mu: usize, nu: usize) -> Caps {
+    pub fn of(i: usize, mu: usize, nu: usize) -> Caps {
         Caps {
             i: (i % 65536) as u16,
             mu: (mu % 65536) as u16,
@@ -30,7 +30,7 @@ impl Caps {
     }
 
     // In range, each by a throw.
-    fn thrown(dice: Dice) -> Caps {
+    pub fn thrown(dice: Dice) -> Caps {
         let i = dice.thrown();
         let mu = i.thrown();
         let nu = mu.thrown();
@@ -84,7 +84,7 @@ fn condensed(b: &[u8], len: usize, caps: Caps, room: usize) -> Answer {
 }
 
 // The lesser.
-fn within(v: usize, most: usize) -> usize
+pub fn within(v: usize, most: usize) -> usize
     ensures { λ r. ⌜ r ≤ most ⌝ }
 {
     if v <= most { v } else { most }
@@ -118,7 +118,7 @@ fn condensed_a(caps: Caps, room: usize) -> Answer {
     condensed(&b, 54, caps, room)
 }
 
-fn register_a(b: &mut [u8]) {
+pub fn register_a(b: &mut [u8]) {
     made::put_head(b, 6, 3);
     marks_a(b);
     made::put_link(b, 6, 0, 0, 0, 3);
@@ -215,7 +215,7 @@ fn room_at(c: usize) -> usize {
 }
 
 // One less, or 0.
-fn less(length: usize) -> usize {
+pub fn less(length: usize) -> usize {
     if length == 0 { 0 } else { length - 1 }
 }
 

@@ -1,6 +1,7 @@
 // Runs cases through the proved library and prints a line for each: the family, the case's numbers, the answer. The second program prints
 // the same lines from its own code, and `stdout` here is what it printed. Leans on casework for dice, bytes and lines.
 mod asking;
+mod checking;
 mod condensing;
 mod judging;
 
@@ -26,4 +27,11 @@ fn main() {
     condensing::shapes();
     condensing::labelled();
     condensing::seeded();
+    checking::faulties();
+    checking::steps();
+    checking::fields();
+    checking::cuts();
+    checking::parts();
+    checking::proposals();
+    checking::seeded();
 }
