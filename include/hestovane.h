@@ -37,6 +37,14 @@ int32_t hestovane_check(const uint8_t *reg, size_t reg_len, const uint8_t *sum, 
 /* Whether the question holds at the item of the register: 1, 0, or refused with 1, 2, 3, 5, 8 in that order. */
 int32_t hestovane_ask_register(const uint8_t *reg, size_t reg_len, const uint8_t *q, size_t q_len, uint16_t item);
 
+/* Whether the question holds at the item of the summary: 1, 0, or refused with 6, 5, 7, 8 in that order. */
+int32_t hestovane_ask_summary(const uint8_t *sum, size_t sum_len, const uint8_t *q, size_t q_len, uint16_t item);
+
+/* The items where the question holds, from the summary alone, into out: ascending, each once, two bytes an item, most significant byte first.
+ * Their length in bytes, or refused with 6, 5, 7, 9 in that order. A refusal changes no byte of out; a success leaves the bytes past the
+ * length as they were. 2,048 bytes are always enough. No input may overlap out. */
+int32_t hestovane_list(const uint8_t *sum, size_t sum_len, const uint8_t *q, size_t q_len, uint8_t *out, size_t out_len);
+
 #ifdef __cplusplus
 }
 #endif

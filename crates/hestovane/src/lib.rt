@@ -6,15 +6,23 @@ use inquiry::Asked;
 use names::Item;
 use register::Judged;
 ghost use mathlib.Core.Path.{_≡_};
-ghost use lib.ListN.{length};
+ghost use mathlib.Core.Bool.{true};
+ghost use mathlib.Core.Option.{some};
+ghost use Prim.Native.Nat.{_≤_};
+ghost use lib.ListN.{length, take};
+ghost use Rattle.meaning.specs.Question.{Question};
 ghost use Rattle.files.specs.QuestionFile.{question};
 ghost use Rattle.files.specs.Refusals.{numberOf};
-ghost use Rattle.files.specs.Answers.{word, number, returned, code, left, askTree, askRegister};
+ghost use Rattle.files.specs.Bytes.{put2, pack};
+ghost use Rattle.files.specs.SummaryFile.{summaryIn, wellFormedFile};
+ghost use Rattle.files.specs.Answers.{word, number, returned, code, left, into, askTree, askRegister, askSummary};
 ghost use Rattle.files.specs.Answers as answers;
 ghost use Rattle.register.specs.Told.{OfRegister};
 ghost use Rattle.condense.specs.Written as written;
 ghost use Rattle.condense.specs.Written.{Gives};
 ghost use Rattle.inquiry.specs.Known.{Whole};
+ghost use Rattle.wellformed.specs.Keys.{Keyed};
+ghost use Rattle.hestovane.specs.Readied.{Readied, Named};
 ghost use Rattle.hestovane.specs.Told.{told, Short};
 
 // Yes, no, or the refusal.
@@ -112,10 +120,105 @@ fn check_accepted(reg: &[u8], n: usize, m: usize, s: &[u8]) -> Said
     ensures { λ r. ⌜ told r ≡ returned (answers.check (now (reg .entry)) (now (s .entry))) ⌝ }
 {
     let mut keys = [0u64; 4096];
+    if wellformed::judge(s, &mut keys) {
+        return spoken(proposal::check(reg, n, m, s, &keys));
+    }
+    Said::Refused(Refusal::Summary)
+}
+
+// Whether the question holds at the item of the summary: "ask a summary 6, 5, 7, 8".
+pub fn ask_summary(s: &[u8], q: &[u8], item: u16) -> Said
+    ensures { λ r. ⌜ told r ≡ returned (askSummary (now (s .entry)) (now (q .entry)) item) ⌝ }
+{
+    let mut keys = [0u64; 4096];
     if !wellformed::judge(s, &mut keys) {
         return Said::Refused(Refusal::Summary);
     }
-    spoken(proposal::check(reg, n, m, s, &keys))
+    let judged = question::judge(q);
+    match judged {
+        question::Judged::Accepted { depth, threshold } => {
+            ask_read(s, &keys, q, depth, threshold, item)
+        }
+        question::Judged::Refused(five) => Said::Refused(five),
+    }
+}
+
+// The summary is well formed and the question has that depth and that greatest threshold: 7, 8, and then the answer.
+fn ask_read(s: &[u8], keys: &[u64], q: &[u8], depth: usize, threshold: usize, item: u16) -> Said
+    requires { ⌜ Readied (now s) (now keys) (now q) depth threshold ⌝ }
+    ensures { λ r. ⌜ told r ≡ returned (askSummary (now (s .entry)) (now (q .entry)) item) ⌝ }
+{
+    if reach::beyond(s, depth, threshold) {
+        return Said::Refused(Refusal::Beyond);
+    }
+    if reader::items(s) <= item as usize {
+        return Said::Refused(Refusal::Item);
+    }
+    let mut lowest = [0u16; 1024];
+    consult::put_lowest(s, &mut lowest);
+    let class = reader::class_of(s, Item(item));
+    spoken(consult::holds(q, 0, s, keys, &lowest, class))
+}
+
+// The items of the summary where the question holds, into the lent buffer: "list from a summary 6, 5, 7, 9".
+pub fn list(s: &[u8], q: &[u8], out: &mut [u8]) -> Wrote
+    ensures { λ w. ⌜ Gives w (now (out .entry)) (now (out .exit)) (answers.list (now (s .entry)) (now (q .entry)) (length (now (out .entry)))) ⌝ }
+{
+    let mut keys = [0u64; 4096];
+    if !wellformed::judge(s, &mut keys) {
+        return Wrote::Refused(Refusal::Summary);
+    }
+    let judged = question::judge(q);
+    match judged {
+        question::Judged::Accepted { depth, threshold } => {
+            list_read(s, &keys, q, depth, threshold, out)
+        }
+        question::Judged::Refused(five) => Wrote::Refused(five),
+    }
+}
+
+// And then 7, the items, and 9.
+fn list_read(
+    s: &[u8],
+    keys: &[u64],
+    q: &[u8],
+    depth: usize,
+    threshold: usize,
+    out: &mut [u8],
+) -> Wrote
+    requires { ⌜ Readied (now s) (now keys) (now q) depth threshold ⌝ }
+    ensures { λ w. ⌜ Gives w (now (out .entry)) (now (out .exit)) (answers.list (now (s .entry)) (now (q .entry)) (length (now (out .entry)))) ⌝ }
+{
+    if reach::beyond(s, depth, threshold) {
+        return Wrote::Refused(Refusal::Beyond);
+    }
+    let mut named = [0u16; 1024];
+    let r = put_named(s, keys, q, &mut named);
+    put_list(&named, r, out)
+}
+
+// The items where the question holds, a class asked once and not once an item.
+fn put_named(s: &[u8], keys: &[u64], q: &[u8], named: &mut [u16]) -> usize
+    requires { ⌜ (wellFormedFile (now s) ≡ true) × (length (now keys) ≡ 4096) × Keyed true (summaryIn (now s)) (now keys) × (length (now named) ≡ 1024) ⌝ }
+    ensures { λ r. ⌜ ((t : Question) → question (now (q .entry)) ≡ some t → Named (summaryIn (now (s .entry))) t r (now (named .exit))) ⌝ }
+{
+    let mut lowest = [0u16; 1024];
+    consult::put_lowest(s, &mut lowest);
+    let mut answers = [false; 1024];
+    consult::put_answers(q, s, keys, &lowest, &mut answers);
+    listed::put_items(s, &answers, named)
+}
+
+// "9: output buffer shorter than the answer", known before a byte is written; "A list is two bytes an item".
+fn put_list(named: &[u16], r: usize, out: &mut [u8]) -> Wrote
+    requires { ⌜ (r ≤ 1024) × (r ≤ length (now named)) ⌝ }
+    ensures { λ w. ⌜ Gives w (now (out .entry)) (now (out .exit)) (into (length (now (out .entry))) (pack put2 (take r (now (named .entry))))) ⌝ }
+{
+    if out.len() < 2 * r {
+        return Wrote::Refused(Refusal::Room);
+    }
+    wire::put_numbers(out, 0, named, r);
+    Wrote::Length(2 * r)
 }
 
 fn spoken(yes: bool) -> Said
@@ -183,4 +286,19 @@ pub extern "C" fn hestovane_ask_register(reg: &[u8], q: &[u8], item: u16) -> i32
     ensures { λ r. ⌜ r ≡ code (returned (askRegister (now (reg .entry)) (now (q .entry)) item)) ⌝ }
 {
     coded(ask_register(reg, q, item))
+}
+
+#[no_mangle]
+pub extern "C" fn hestovane_ask_summary(s: &[u8], q: &[u8], item: u16) -> i32
+    ensures { λ r. ⌜ r ≡ code (returned (askSummary (now (s .entry)) (now (q .entry)) item)) ⌝ }
+{
+    coded(ask_summary(s, q, item))
+}
+
+#[no_mangle]
+pub extern "C" fn hestovane_list(s: &[u8], q: &[u8], out: &mut [u8]) -> i32
+    ensures { λ r. ⌜ r ≡ code (returned (answers.list (now (s .entry)) (now (q .entry)) (length (now (out .entry))))) ⌝ }
+    ensures { λ _. ⌜ now (out .exit) ≡ left (answers.list (now (s .entry)) (now (q .entry)) (length (now (out .entry)))) (now (out .entry)) ⌝ }
+{
+    measured(list(s, q, out))
 }

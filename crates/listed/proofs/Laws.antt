@@ -41,12 +41,14 @@ pub put-none : (out : List ℕ) (r x : ℕ) (t : Bool) → t ≡ false → (r �
 put-none out r x t e = rw e (omega arith, sym (append-nil (take r out)))
 
 -- the answer at an item's class, and the classes that items have
-pub class-low : (s : List ℕ) (x : ℕ) → wellFormedFile s ≡ true → x < length (summaryIn s .map) → classAt (summaryIn s) x < 1024
+pub mapped : (s : List ℕ) (x : ℕ) → wellFormedFile s ≡ true → x < length (summaryIn s .map) → classAt (summaryIn s) x < length (summaryIn s .classes)
 unfolding classAt
-class-low s x w h =
+mapped s x w h =
     let p = number-parts (summaryIn s) (well-parts (summaryIn s) (well-file s w .1) .2) .3 in
-    let u = every-at (λ k. k < length (summaryIn s .classes)) 0 (summaryIn s .map) (each-every (λ k. ltb k (length (summaryIn s .classes))) (summaryIn s .map) p (λ k e. ltb-true k (length (summaryIn s .classes)) e)) x h in
-    omega (arith, sized-file s w .few-classes)
+    every-at (λ k. k < length (summaryIn s .classes)) 0 (summaryIn s .map) (each-every (λ k. ltb k (length (summaryIn s .classes))) (summaryIn s .map) p (λ k e. ltb-true k (length (summaryIn s .classes)) e)) x h
+
+pub class-low : (s : List ℕ) (x : ℕ) → wellFormedFile s ≡ true → x < length (summaryIn s .map) → classAt (summaryIn s) x < 1024
+class-low s x w h = omega (arith, mapped s x w h, sized-file s w .few-classes)
 
 pub next-named : (p : ℕ → Bool) (out out′ : List ℕ) (r r′ x v : ℕ) (t : Bool) → t ≡ p x → v ≡ x → r ≡ length (those p x) → take r out ≡ those p x → r′ ≡ r + length (cond t (v ∷ []) []) → take r′ out′ ≡ take r out ++ cond t (v ∷ []) [] →
     (r′ ≡ length (those p (x + 1))) × (take r′ out′ ≡ those p (x + 1))

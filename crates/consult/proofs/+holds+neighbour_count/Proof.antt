@@ -1,0 +1,323 @@
+-- `holds` and `neighbour_count` call each other: entries left, then rows left, fall. The measure is one number: there are at most 4,096
+-- rows, so an entry outweighs them all. Each way out is a law of Laws.
+use mathlib.Core.Path.{_≡_, sym, ap, _∙_}
+use mathlib.Core.Option.{some}
+use Prim.Native.Nat.{ℕ, _+_, _-_, _*_, _/_, _≤_, _<_}
+use native.Mathlib.Omega.{arith}
+use lib.IntN.{ℤ}
+use lib.ListN.{length}
+use Rattle.meaning.specs.Summary.{rowOf, lowestClass}
+use Rattle.meaning.specs.declared.Kind.the-variants.{Literal}
+use Rattle.files.specs.SummaryFile.{summaryIn}
+use Rattle.question.specs.Read.{entryAt}
+use Rattle.question.proofs.Laws.{is-entry, within-entry, literal-back, literal-read, least-read}
+use Rattle.reader.specs.Sized.{HasRow}
+use Rattle.wellformed.proofs.Laws.{well-file, sized-file}
+use Rattle.consult.proofs.Laws.{says-none, says-true, says-literal, says-not, says-and, says-and-no, says-or, says-or-yes, says-least, counts-none, counts-in, counts-out, sum-most, group-below, lowest-asked}
+use borrow.Author.Needs.{needs}
+use borrow.Fn.Kinds.{In}
+use borrow.Fn.PlainCycle.{Measures, is, falls, and}
+use Rattle.consult.proofs.holds.Reads as holds
+use Rattle.consult.proofs.holds.Kinds as holds-kinds
+use Rattle.consult.proofs.+holds+neighbour_count.Lts-holds as holds-lts
+use Rattle.consult.proofs.neighbour_count.Reads as count
+use Rattle.consult.proofs.neighbour_count.Kinds as count-kinds
+use Rattle.consult.proofs.+holds+neighbour_count.Lts-neighbour_count as count-lts
+use Rattle.consult.proofs.after.Reads as after-reads
+use Rattle.consult.proofs.lowest_of.Reads as lowest-of-reads
+use Rattle.consult.proofs.rows_of.Reads as rows-of-reads
+use Rattle.question.proofs.entry.Reads as entry-reads
+use Rattle.question.proofs.shows.Reads as shows-reads
+use Rattle.reader.proofs.marks.Reads as marks-reads
+use Rattle.reader.proofs.row_count.Reads as row-count-reads
+use Rattle.reader.proofs.row_group.Reads as row-group-reads
+use Rattle.consult.proofs.+holds+neighbour_count.{statement}
+use Rattle.consult.proofs.+holds+neighbour_count.Tie.{close}
+
+-- the arguments are q, at, s, keys, lowest, and then class; or row, end
+abbrev μ-holds : Measures 4 holds-kinds.ps ℕ
+μ-holds κs a = (length (a .0 .now) / 4 - a .1 .0) * 65536
+
+abbrev μ-count : Measures 4 count-kinds.ps ℕ
+μ-count κs a = (length (a .0 .now) / 4 - a .1 .0) * 65536 + (a .1 .1 .1 .1 .1 .1 .0 - a .1 .1 .1 .1 .1 .0) + 1
+
+abbrev holds-at : ℕ → In 4 holds-kinds.ps
+holds-at t = and 4 holds-kinds.ps (is 4 holds-kinds.ps μ-holds t) holds.Pre
+
+abbrev holds-below : ℕ → In 4 holds-kinds.ps
+holds-below t = and 4 holds-kinds.ps (falls 4 holds-kinds.ps _<_ μ-holds t) holds.Pre
+
+abbrev count-at : ℕ → In 4 count-kinds.ps
+count-at t = and 4 count-kinds.ps (is 4 count-kinds.ps μ-count t) count.Pre
+
+abbrev count-below : ℕ → In 4 count-kinds.ps
+count-below t = and 4 count-kinds.ps (falls 4 count-kinds.ps _<_ μ-count t) count.Pre
+
+abbrev holds-given : ℕ → holds-lts.Claims
+holds-given t = (
+  entry-reads.Asked,
+  entry-reads.Learnt,
+  marks-reads.Asked,
+  marks-reads.Learnt,
+  shows-reads.Asked,
+  shows-reads.Learnt,
+  holds-below t,
+  holds.Post,
+  after-reads.Asked,
+  after-reads.Learnt,
+  rows-of-reads.Asked,
+  rows-of-reads.Learnt,
+  count-below t,
+  count.Post,
+)
+
+abbrev count-given : ℕ → count-lts.Claims
+count-given t = (count-below t, count.Post, row-group-reads.Asked, row-group-reads.Learnt, lowest-of-reads.Asked, lowest-of-reads.Learnt, holds-below t, holds.Post, row-count-reads.Asked, row-count-reads.Learnt)
+
+-- ---- holds
+
+-- the place where the entry's kind is known, and from there the start
+abbrev Known : ℕ → Type 0
+Known t = holds-lts.After-known-told (holds-given t) (holds-at t) holds.Post
+
+abbrev start : (t : ℕ) → Known t → holds-lts.Start (holds-given t) (holds-at t) holds.Post
+start t c = c .before .before .before .before .before .before .before .before
+
+reads-as : (t : ℕ) (c : Known t) → entryAt (start t c .args .q .now) (start t c .args .at) ≡ some (c .before .kind .given .0 .0)
+reads-as t c = is-entry _ _ _ _ (c .before .before .before .entry .ensures) (c .before .kind .given .1)
+
+inside : (t : ℕ) (c : Known t) → start t c .args .at < length (start t c .args .q .now) / 4
+inside t c = within-entry _ _ _ _ (c .before .before .before .entry .ensures) (c .before .kind .given .1)
+
+holds-entry-requires : (t : ℕ) → holds-lts.Need-entry-requires (holds-given t) (holds-at t) holds.Post
+holds-entry-requires t c κs = search needs
+
+holds-enum-known-kind : (t : ℕ) → holds-lts.Need-enum-known-kind (holds-given t) (holds-at t) holds.Post
+holds-enum-known-kind t c = search needs
+
+holds-enum-told : (t : ℕ) → holds-lts.Need-enum-told (holds-given t) (holds-at t) holds.Post
+holds-enum-told t c = search needs
+
+holds-returns : (t : ℕ) → holds-lts.Need-returns (holds-given t) (holds-at t) holds.Post
+holds-returns t c = says-none _ _ _ _ _ _ (c .before .before .entry .ensures) (c .enum-told .given .1)
+
+holds-enum-told-2 : (t : ℕ) → holds-lts.Need-enum-told-2 (holds-given t) (holds-at t) holds.Post
+holds-enum-told-2 t c = search needs
+
+holds-enum-known-kind-2 : (t : ℕ) → holds-lts.Need-enum-known-kind-2 (holds-given t) (holds-at t) holds.Post
+holds-enum-known-kind-2 t c = search needs
+
+holds-marks-requires : (t : ℕ) → holds-lts.Need-marks-requires (holds-given t) (holds-at t) holds.Post
+holds-marks-requires t c κs = let s = start t (c .before .before .before) in record { exact-is = well-file _ (s .pre .1 .0 .well) .0; class-is = s .pre .1 .1 }
+
+holds-shows-requires : (t : ℕ) → holds-lts.Need-shows-requires (holds-given t) (holds-at t) holds.Post
+holds-shows-requires t c κs = let e = reads-as t (c .before .before .before .before) ∙ ap some (c .before .before .kind2 .given .1) in rw (literal-back _ _ e) (literal-read _ _ e)
+
+holds-enum-told-3 : (t : ℕ) → holds-lts.Need-enum-told-3 (holds-given t) (holds-at t) holds.Post
+holds-enum-told-3 t c = search needs
+
+holds-add-holds : (t : ℕ) → holds-lts.Need-add-holds (holds-given t) (holds-at t) holds.Post
+holds-add-holds t c = omega (arith, inside t (c .before .before))
+
+holds-holds-requires : (t : ℕ) → holds-lts.Need-holds-requires (holds-given t) (holds-at t) holds.Post
+holds-holds-requires t c κs = let s = start t (c .before .before) in (omega (arith, inside t (c .before .before), s .pre .0), s .pre .1)
+
+holds-enum-told-4 : (t : ℕ) → holds-lts.Need-enum-told-4 (holds-given t) (holds-at t) holds.Post
+holds-enum-told-4 t c = search needs
+
+holds-add-holds-2 : (t : ℕ) → holds-lts.Need-add-holds-2 (holds-given t) (holds-at t) holds.Post
+holds-add-holds-2 t c = omega (arith, inside t (c .before .before))
+
+holds-holds-requires-2 : (t : ℕ) → holds-lts.Need-holds-requires-2 (holds-given t) (holds-at t) holds.Post
+holds-holds-requires-2 t c κs = let s = start t (c .before .before) in (omega (arith, inside t (c .before .before), s .pre .0), s .pre .1)
+
+holds-add-after : (t : ℕ) → holds-lts.Need-add-after (holds-given t) (holds-at t) holds.Post
+holds-add-after t c = omega (arith, inside t (c .before .before .before .before))
+
+holds-after-requires : (t : ℕ) → holds-lts.Need-after-requires (holds-given t) (holds-at t) holds.Post
+holds-after-requires t c κs = omega (arith, inside t (c .before .before .before .before))
+
+holds-holds-requires-3 : (t : ℕ) → holds-lts.Need-holds-requires-3 (holds-given t) (holds-at t) holds.Post
+holds-holds-requires-3 t c κs = let s = start t (c .before .before .before .before .before) in (omega (arith, inside t (c .before .before .before .before .before), s .pre .0, c .after .ensures .0), s .pre .1)
+
+holds-enum-told-5 : (t : ℕ) → holds-lts.Need-enum-told-5 (holds-given t) (holds-at t) holds.Post
+holds-enum-told-5 t c = search needs
+
+holds-add-holds-3 : (t : ℕ) → holds-lts.Need-add-holds-3 (holds-given t) (holds-at t) holds.Post
+holds-add-holds-3 t c = omega (arith, inside t (c .before .before))
+
+holds-holds-requires-4 : (t : ℕ) → holds-lts.Need-holds-requires-4 (holds-given t) (holds-at t) holds.Post
+holds-holds-requires-4 t c κs = let s = start t (c .before .before) in (omega (arith, inside t (c .before .before), s .pre .0), s .pre .1)
+
+holds-add-after-2 : (t : ℕ) → holds-lts.Need-add-after-2 (holds-given t) (holds-at t) holds.Post
+holds-add-after-2 t c = omega (arith, inside t (c .before .before .before .before))
+
+holds-after-requires-2 : (t : ℕ) → holds-lts.Need-after-requires-2 (holds-given t) (holds-at t) holds.Post
+holds-after-requires-2 t c κs = omega (arith, inside t (c .before .before .before .before))
+
+holds-holds-requires-5 : (t : ℕ) → holds-lts.Need-holds-requires-5 (holds-given t) (holds-at t) holds.Post
+holds-holds-requires-5 t c κs = let s = start t (c .before .before .before .before .before) in (omega (arith, inside t (c .before .before .before .before .before), s .pre .0, c .after2 .ensures .0), s .pre .1)
+
+holds-enum-known-kind-3 : (t : ℕ) → holds-lts.Need-enum-known-kind-3 (holds-given t) (holds-at t) holds.Post
+holds-enum-known-kind-3 t c = search needs
+
+holds-rows-of-requires : (t : ℕ) → holds-lts.Need-rows-of-requires (holds-given t) (holds-at t) holds.Post
+holds-rows-of-requires t c κs = let s = start t (c .before .before .before) in let w = s .pre .1 .0 in (w .well, w .keys-long, w .kept, least-read _ _ (reads-as t (c .before .before .before) ∙ ap some (c .before .kind3 .given .1)) .0)
+
+holds-cast-result : (t : ℕ) → holds-lts.Need-cast-result (holds-given t) (holds-at t) holds.Post
+holds-cast-result t c = search needs
+
+holds-add-neighbour-count : (t : ℕ) → holds-lts.Need-add-neighbour-count (holds-given t) (holds-at t) holds.Post
+holds-add-neighbour-count t c = omega (arith, inside t (c .before .before .before .before))
+
+holds-neighbour-count-requires : (t : ℕ) → holds-lts.Need-neighbour-count-requires (holds-given t) (holds-at t) holds.Post
+holds-neighbour-count-requires t c κs = let s = start t (c .before .before .before .before) in let own = c .rows-of .ensures in let w = s .pre .1 .0 in (omega (arith, inside t (c .before .before .before .before), s .pre .0, own .rises, own .ends, sized-file _ (w .well) .few-rows), (w, own .rises, own .ends))
+
+holds-returns-2 : (t : ℕ) → holds-lts.Need-returns-2 (holds-given t) (holds-at t) holds.Post
+holds-returns-2 t c = says-true _ _ _ _ (reads-as t (c .before .before) ∙ ap some (c .enum-told2 .given .1))
+
+holds-returns-3 : (t : ℕ) → holds-lts.Need-returns-3 (holds-given t) (holds-at t) holds.Post
+holds-returns-3 t c =
+    let e = reads-as t (c .before .before .before .before .before) ∙ ap some (c .before .before .before .kind2 .given .1) in
+    says-literal _ _ _ _ _ _ _ (e ∙ ap (λ (z : ℤ). some (Literal z)) (sym (literal-back _ _ e))) (c .before .marks .ensures) (c .shows .ensures)
+
+holds-returns-4 : (t : ℕ) → holds-lts.Need-returns-4 (holds-given t) (holds-at t) holds.Post
+holds-returns-4 t c = says-not _ _ _ _ _ (reads-as t (c .before .before .before) ∙ ap some (c .before .enum-told3 .given .1)) (c .holds .ensures)
+
+holds-returns-5 : (t : ℕ) → holds-lts.Need-returns-5 (holds-given t) (holds-at t) holds.Post
+holds-returns-5 t c = says-and _ _ _ _ _ (c .before .after .ensures) _ _ (c .before .before .if1 .taken) (reads-as t (c .before .before .before .before .before .before) ∙ ap some (c .before .before .before .before .enum-told4 .given .1)) (c .before .before .before .holds2 .ensures) (c .holds3 .ensures)
+
+holds-returns-6 : (t : ℕ) → holds-lts.Need-returns-6 (holds-given t) (holds-at t) holds.Post
+holds-returns-6 t c = says-and-no _ _ _ _ _ (c .if1 .left) (reads-as t (c .before .before .before .before) ∙ ap some (c .before .before .enum-told4 .given .1)) (c .before .holds2 .ensures)
+
+holds-returns-7 : (t : ℕ) → holds-lts.Need-returns-7 (holds-given t) (holds-at t) holds.Post
+holds-returns-7 t c = says-or-yes _ _ _ _ _ (c .if2 .taken) (reads-as t (c .before .before .before .before) ∙ ap some (c .before .before .enum-told5 .given .1)) (c .before .holds4 .ensures)
+
+holds-returns-8 : (t : ℕ) → holds-lts.Need-returns-8 (holds-given t) (holds-at t) holds.Post
+holds-returns-8 t c = says-or _ _ _ _ _ (c .before .after2 .ensures) _ _ (c .before .before .if2 .left) (reads-as t (c .before .before .before .before .before .before) ∙ ap some (c .before .before .before .before .enum-told5 .given .1)) (c .before .before .before .holds4 .ensures) (c .holds5 .ensures)
+
+holds-returns-9 : (t : ℕ) → holds-lts.Need-returns-9 (holds-given t) (holds-at t) holds.Post
+holds-returns-9 t c = says-least _ _ _ _ _ _ _ _ _ _ (reads-as t (c .before .before .before .before .before) ∙ ap some (c .before .before .before .kind3 .given .1)) (c .before .rows-of .ensures) (c .neighbour-count .ensures .1)
+
+-- ---- neighbour_count
+
+-- a row is left
+abbrev Left : ℕ → Type 0
+Left t = count-lts.Else1 (count-given t) (count-at t) count.Post
+
+abbrev count-start : (t : ℕ) → Left t → count-lts.Start (count-given t) (count-at t) count.Post
+count-start t c = c .before .before .before .before .before
+
+row-there : (t : ℕ) (c : Left t) → HasRow (count-start t c .args .s .now) (count-start t c .args .row)
+row-there t c =
+    let s = count-start t c in
+    record { exact-is = well-file _ (s .pre .1 .0 .well) .0; row-is = omega (arith, c .if1 .left, s .pre .1 .2) }
+
+-- the class at which the operand is asked
+asked : (t : ℕ) (c : count-lts.After-lowest-of (count-given t) (count-at t) count.Post) →
+    let s = count-start t (c .before .before .before) .args in
+    (c .lowest-of .result .0 ≡ lowestClass (summaryIn (s .s .now)) ((rowOf (summaryIn (s .s .now)) (s .row)) .group)) × (c .lowest-of .result .0 < length (summaryIn (s .s .now) .classes))
+asked t c =
+    let l = c .before .before .before in
+    lowest-asked _ _ _ (count-start t l .pre .1 .0) _ (row-there t l .row-is) _ _ (c .before .row-group .ensures) (c .lowest-of .ensures)
+
+-- the rows so far, and this one
+most : (t : ℕ) (c : count-lts.After-row-count (count-given t) (count-at t) count.Post) →
+    let l = c .before .before .before .before .before in
+    let s = count-start t (l .before) .args in
+    (l .neighbour-count .result + c .row-count .result ≤ 8 * (s .end - s .row)) × (l .neighbour-count .result + c .row-count .result ≤ 32768)
+most t c =
+    let n = c .before .before .before .before .before in
+    let l = n .before in
+    let s = count-start t l in
+    sum-most _ _ _ (s .pre .1 .0) _ (row-there t l .row-is) _ _ _ (l .if1 .left) (s .pre .1 .2) (n .neighbour-count .ensures .0) (c .row-count .ensures)
+
+count-returns : (t : ℕ) → count-lts.Need-returns (count-given t) (count-at t) count.Post
+count-returns t c = (omega arith, counts-none _ _ _ _ _ (c .if1 .taken))
+
+count-add-neighbour-count : (t : ℕ) → count-lts.Need-add-neighbour-count (count-given t) (count-at t) count.Post
+count-add-neighbour-count t c = search needs
+
+count-neighbour-count-requires : (t : ℕ) → count-lts.Need-neighbour-count-requires (count-given t) (count-at t) count.Post
+count-neighbour-count-requires t c κs = let s = c .before .before .before .before .before in (omega (arith, s .pre .0, c .if1 .left), (s .pre .1 .0, omega (arith, c .if1 .left), s .pre .1 .2))
+
+count-row-group-requires : (t : ℕ) → count-lts.Need-row-group-requires (count-given t) (count-at t) count.Post
+count-row-group-requires t c κs = row-there t (c .before)
+
+count-lowest-of-requires : (t : ℕ) → count-lts.Need-lowest-of-requires (count-given t) (count-at t) count.Post
+count-lowest-of-requires t c κs = let s = c .before .before .before .before .before .before .before in group-below _ _ _ (s .pre .1 .0) _ (row-there t (c .before .before) .row-is) _ (c .row-group .ensures)
+
+count-holds-requires : (t : ℕ) → count-lts.Need-holds-requires (count-given t) (count-at t) count.Post
+count-holds-requires t c κs = let s = c .before .before .before .before .before .before .before .before in (omega (arith, s .pre .0), (s .pre .1 .0, asked t c .1))
+
+count-row-count-requires : (t : ℕ) → count-lts.Need-row-count-requires (count-given t) (count-at t) count.Post
+count-row-count-requires t c κs = row-there t (c .before .before .before .before .before)
+
+count-cast-result : (t : ℕ) → count-lts.Need-cast-result (count-given t) (count-at t) count.Post
+count-cast-result t c = search needs
+
+count-add-result : (t : ℕ) → count-lts.Need-add-result (count-given t) (count-at t) count.Post
+count-add-result t c = omega (arith, most t c .1)
+
+count-returns-2 : (t : ℕ) → count-lts.Need-returns-2 (count-given t) (count-at t) count.Post
+count-returns-2 t c =
+    let r = c .before .before .before .before .before .neighbour-count .ensures in
+    (most t c .0, counts-in _ _ _ _ _ _ _ (c .before .before .before .before .before .before .if1 .left) (asked t (c .before .before .before) .0) (r .1) _ _ (c .before .if2 .taken) (c .row-count .ensures) (c .before .before .holds .ensures))
+
+count-returns-3 : (t : ℕ) → count-lts.Need-returns-3 (count-given t) (count-at t) count.Post
+count-returns-3 t c =
+    let r = c .before .before .before .before .neighbour-count .ensures in
+    (omega (arith, r .0, c .before .before .before .before .before .if1 .left), counts-out _ _ _ _ _ _ _ (c .before .before .before .before .before .if1 .left) (asked t (c .before .before) .0) (r .1) _ (c .if2 .left) (c .before .holds .ensures))
+
+pub +holds+neighbour-count-spec : {M : Type 1} → statement M
++holds+neighbour-count-spec =
+    close μ-holds μ-count
+    (λ t. holds-lts.spec (holds-given t) (holds-at t) holds.Post
+    (holds-entry-requires t)
+    (holds-enum-known-kind t)
+    (holds-enum-told t)
+    (holds-returns t)
+    (holds-enum-told-2 t)
+    (holds-enum-known-kind-2 t)
+    (holds-marks-requires t)
+    (holds-shows-requires t)
+    (holds-enum-told-3 t)
+    (holds-add-holds t)
+    (holds-holds-requires t)
+    (holds-enum-told-4 t)
+    (holds-add-holds-2 t)
+    (holds-holds-requires-2 t)
+    (holds-add-after t)
+    (holds-after-requires t)
+    (holds-holds-requires-3 t)
+    (holds-enum-told-5 t)
+    (holds-add-holds-3 t)
+    (holds-holds-requires-4 t)
+    (holds-add-after-2 t)
+    (holds-after-requires-2 t)
+    (holds-holds-requires-5 t)
+    (holds-enum-known-kind-3 t)
+    (holds-rows-of-requires t)
+    (holds-cast-result t)
+    (holds-add-neighbour-count t)
+    (holds-neighbour-count-requires t)
+    (holds-returns-2 t)
+    (holds-returns-3 t)
+    (holds-returns-4 t)
+    (holds-returns-5 t)
+    (holds-returns-6 t)
+    (holds-returns-7 t)
+    (holds-returns-8 t)
+    (holds-returns-9 t))
+    λ t. count-lts.spec (count-given t) (count-at t) count.Post
+    (count-returns t)
+    (count-add-neighbour-count t)
+    (count-neighbour-count-requires t)
+    (count-row-group-requires t)
+    (count-lowest-of-requires t)
+    (count-holds-requires t)
+    (count-row-count-requires t)
+    (count-cast-result t)
+    (count-add-result t)
+    (count-returns-2 t)
+    (count-returns-3 t)
