@@ -1,118 +1,155 @@
 -- What `holds` and `neighbour_count` say of every tree at an entry, put together from what their calls say. Leans on question's laws of the
 -- tree that stands at an entry, and on Window.
-use mathlib.Core.Path.{_≡_, sym, ap, ap₂, subst, _∙_}
+use mathlib.Core.Path.{_≡_, refl, sym, ap, ap₂, subst, _∙_}
 use mathlib.Core.Bool.{Bool, true, false, not, cond, _&&_, _||_}
-use mathlib.Core.List.{List}
+use mathlib.Core.Logic.{inl, inr, ⊎-elim}
+use mathlib.Core.List.{List, [], _∷_}
 use mathlib.Core.Option.{some}
 use Prim.Native.Nat.{ℕ, suc, _+_, _-_, _*_, _≤_, _<_}
 use native.Mathlib.Omega.{arith}
 use borrow.Author.Tests.{leb-true}
+use types.Run.{OneOf}
+use denote.Enum.Declared.{tagOf}
 use lib.Dec.{leb, ltb}
 use lib.IntN.{ℤ}
 use lib.ListN.{length, getD, set}
 use lib.Seq.{getD-set-same, getD-set-other}
 use Rattle.meaning.specs.Count.{sum}
 use Rattle.meaning.specs.declared.Direction.{Direction}
+use Rattle.meaning.specs.declared.Kind.{Kind}
 use Rattle.meaning.specs.declared.Kind.the-variants.{True, Literal, Not, And, Or, AtLeast}
+use Rattle.meaning.proofs.Kind.{the-type}
 use Rattle.meaning.specs.Question.{Question, shows}
 use Rattle.meaning.specs.Summary.{Row, Summary, noRow, classOf, rowOf, lowestClass, holdsAt}
 use Rattle.meaning.specs.WellFormed.{within, rowIn, numbers, wellFormed}
-use Rattle.files.specs.QuestionFile.{question}
 use Rattle.files.specs.SummaryFile.{summaryIn}
 use Rattle.files.specs.declared.Refusal.{Refusal}
 use Rattle.theory.proofs.CountLaws.{by-eq, and-inv, each-every, every-at, sum-same, sum-front}
 use Rattle.theory.proofs.ShapeLaws.{well-parts, number-parts}
+use Rattle.question.specs.declared.Asked.{Asked}
+use Rattle.question.specs.declared.Asked.the-variants.{Said, Refused as NotSaid}
+use Rattle.question.specs.declared.Filled.{Filled}
 use Rattle.question.specs.declared.Reading.{Reading}
 use Rattle.question.specs.declared.Reading.the-variants.{Malformed}
 use Rattle.question.specs.declared.Spanned.{Spanned}
 use Rattle.question.specs.declared.Spanned.the-variants.{Tree, Refused}
 use Rattle.question.specs.Read.{kindOf, entryAt, Parsed, Spans}
-use Rattle.question.proofs.Laws.{clash, reads-first, forward, parsed-true, parsed-literal, parsed-not, parsed-and, parsed-or, parsed-least, parsed-one, parsed-question}
+use Rattle.question.proofs.Laws.{clash, reads-first, forward, parsed-true, parsed-literal, parsed-not, parsed-and, parsed-or, parsed-least, parsed-one}
+use Rattle.question.proofs.Steps.{Two}
 use Rattle.wellformed.proofs.Laws.{well-file, sized-file, groups-file}
 use Rattle.wellformed.proofs.Match.{row-at}
-use Rattle.consult.specs.Consulted.{Consulted, Own, adds}
+use Rattle.consult.specs.declared.Counted.{Counted}
+use Rattle.consult.specs.declared.Counted.the-variants.{Sum, Refused as Uncounted}
+use Rattle.consult.specs.Consulted.{Consulted, Own, adds, Holds, Counts, Answers, sumOf, turned, any, decides, reached}
 use Rattle.consult.proofs.Lowest.{lowest-below}
 use Rattle.consult.proofs.Window.{counted-own}
 
--- r is the entry after the tree at entry i
-abbrev pub Ends : List ℕ → ℕ → ℕ → Type 0
-Ends q i r = (i < r) × ((t : Question) (k : ℕ) → Parsed q i t k → r ≡ k)
+-- ---- two operands
 
-module _ (q : List ℕ) (i : ℕ) where
-  pub after-none : (s : Spanned) (r : Refusal) → Spans q i s → s ≡ Refused r → Ends q i (i + 1)
-  unfolding Spans
-  after-none s r spans e = let none : Spans q i (Refused r) = rw e at spans in (omega arith, λ t k p. absurd (none .1 t k p))
+-- what an entry of two operands says of them
+abbrev joins : Bool → Bool → Bool → Bool
+joins any x y = cond any (x || y) (x && y)
 
-  pub after-tree : (s : Spanned) (d m k : ℕ) → Spans q i s → s ≡ Tree d m k → Ends q i k
-  unfolding Spans
-  after-tree s d m k spans e = let one : Spans q i (Tree d m k) = rw e at spans in (forward (one .1), λ t j p. parsed-one (one .1) p .1)
+decided : (any x y : Bool) → cond any x (not x) ≡ true → joins any x y ≡ x
+decided true true y h = refl
+decided true false y h = absurd (let z : _≡_ {A = ℕ} 0 1 = cc in omega arith)
+decided false true y h = absurd (let z : _≡_ {A = ℕ} 0 1 = cc in omega arith)
+decided false false y h = refl
 
--- r is whether the tree at entry i holds at class c
-abbrev pub Says : List ℕ → ℕ → Summary → ℕ → Bool → Type 0
-Says q i S c r = (t : Question) (k : ℕ) → Parsed q i t k → r ≡ holdsAt S t c
+undecided : (any x y : Bool) → cond any x (not x) ≡ false → joins any x y ≡ y
+undecided true true y h = absurd (let z : _≡_ {A = ℕ} 0 1 = cc in omega arith)
+undecided true false y h = refl
+undecided false true y h = refl
+undecided false false y h = absurd (let z : _≡_ {A = ℕ} 0 1 = cc in omega arith)
 
--- r is the sum of the rows from row up to end, for the tree at entry i
-abbrev pub Counts : List ℕ → ℕ → Summary → ℕ → ℕ → ℕ → Type 0
-Counts q i S row end r = (t : Question) (k : ℕ) → Parsed q i t k → r ≡ sum (λ j. adds S t (row + j)) (end - row)
+-- no other kind than "or" is content with one operand
+pub not-any : (k : Kind) → OneOf (0 ∷ 1 ∷ 2 ∷ 3 ∷ 5 ∷ []) (tagOf the-type k) → any k ≡ false
+not-any True h = refl
+not-any (Literal z) h = refl
+not-any Not h = refl
+not-any And h = refl
+not-any (AtLeast d l n) h = refl
+not-any Or h = absurd (⊎-elim (λ e. omega arith) (⊎-elim (λ e. omega arith) (⊎-elim (λ e. omega arith) (⊎-elim (λ e. omega arith) (λ e. omega arith)))) h)
+
+-- the first stands at the next entry, the second where the first ends
+operands : (q : List ℕ) (i : ℕ) (S : Summary) (c : ℕ) (kind : Kind) → Two kind → entryAt q i ≡ some kind → (t : Question) (k : ℕ) → Parsed q i t k →
+    (p : Question) × (r : Question) × (m : ℕ) × (holdsAt S t c ≡ joins (any kind) (holdsAt S p c) (holdsAt S r c)) × Parsed q (i + 1) p m × Parsed q m r k
+unfolding holdsAt
+operands q i S c kind (inl h) e t k p =
+    let o = parsed-and p (e ∙ ap some h) in
+    (o .0, o .1, o .2, ap (λ (u : Question). holdsAt S u c) (o .3) ∙ ap (λ (b : Bool). joins b (holdsAt S (o .0) c) (holdsAt S (o .1) c)) (sym (ap any h)), o .4, o .5)
+operands q i S c kind (inr h) e t k p =
+    let o = parsed-or p (e ∙ ap some h) in
+    (o .0, o .1, o .2, ap (λ (u : Question). holdsAt S u c) (o .3) ∙ ap (λ (b : Bool). joins b (holdsAt S (o .0) c) (holdsAt S (o .1) c)) (sym (ap any h)), o .4, o .5)
 
 -- ---- whether an entry holds, by its kind
 
+pub not-refused : (a : Asked) (b : Bool) (r : Refusal) → a ≡ Said b → a ≡ NotSaid r → ⊥
+not-refused a b r e f = let z : _≡_ {A = ℕ} 0 1 = cc in omega arith
+
+said-one : (a : Asked) (b d : Bool) → a ≡ Said b → a ≡ Said d → b ≡ d
+said-one a b d e f = cc
+
+uncounted : (a : Counted) (n : ℕ) (r : Refusal) → a ≡ Sum n → a ≡ Uncounted r → ⊥
+uncounted a n r e f = let z : _≡_ {A = ℕ} 0 1 = cc in omega arith
+
+-- the entry after a tree is further on
+pub spans-on : (q : List ℕ) (i : ℕ) (s : Spanned) → Spans q i s → (d m j : ℕ) → s ≡ Tree d m j → i < j
+unfolding Spans
+spans-on q i s spans d m j e = let one : Spans q i (Tree d m j) = rw e at spans in forward (one .1)
+
 module _ (q : List ℕ) (i : ℕ) (S : Summary) (c : ℕ) where
-  pub says-none : (s : Reading) (r : Bool) → kindOf s ≡ entryAt q i → s ≡ Malformed → Says q i S c r
-  says-none s r e f t k p = absurd (clash (sym (ap kindOf f) ∙ e ∙ reads-first p .1))
+  pub holds-none : (s : Reading) (r : Asked) → kindOf s ≡ entryAt q i → s ≡ Malformed → Holds q i S c r
+  holds-none s r e f t k p = absurd (clash (sym (ap kindOf f) ∙ e ∙ reads-first p .1))
 
-  pub says-true : entryAt q i ≡ some True → Says q i S c true
+  pub holds-true : entryAt q i ≡ some True → Holds q i S c (Said true)
   unfolding holdsAt
-  says-true e t k p = rw (parsed-true p e .0)
+  holds-true e t k p = rw (parsed-true p e .0)
 
-  pub says-literal : (z : ℤ) (m : ℕ) (r : Bool) → entryAt q i ≡ some (Literal z) → m ≡ (classOf S c) .marks → r ≡ shows m z → Says q i S c r
+  pub holds-literal : (z : ℤ) (m : ℕ) (r : Bool) → entryAt q i ≡ some (Literal z) → m ≡ (classOf S c) .marks → r ≡ shows m z → Holds q i S c (Said r)
   unfolding holdsAt
-  says-literal z m r e f g t k p = rw (parsed-literal p e .0) (g ∙ ap (λ (m : ℕ). shows m z) f)
+  holds-literal z m r e f g t k p = rw (parsed-literal p e .0) (ap (λ (b : Bool). Said b) (g ∙ ap (λ (m : ℕ). shows m z) f))
 
-  pub says-not : (r : Bool) → entryAt q i ≡ some Not → Says q (i + 1) S c r → Says q i S c (not r)
+  pub holds-not : (r : Asked) → entryAt q i ≡ some Not → Holds q (i + 1) S c r → Holds q i S c (turned r)
   unfolding holdsAt
-  says-not r e f t k p = let o = parsed-not p e in rw (o .1) (ap not (f (o .0) k (o .2)))
+  holds-not r e f t k p = let o = parsed-not p e in rw (o .1) (ap turned (f (o .0) k (o .2)))
 
-  -- the first operand decides
-  pub says-and-no : (a : Bool) → a ≡ false → entryAt q i ≡ some And → Says q (i + 1) S c a → Says q i S c a
+  module _ (kind : Kind) (two : Two kind) (e : entryAt q i ≡ some kind) (a : Asked) (first : Holds q (i + 1) S c a) where
+    -- the first operand decides
+    pub holds-first : decides kind a ≡ true → Holds q i S c a
+    holds-first h t k p =
+        let o = operands q i S c kind two e t k p in
+        let says = first (o .0) (o .2) (o .4) in
+        says ∙ ap (λ (b : Bool). Said b) (sym (o .3 ∙ decided (any kind) (holdsAt S (o .0) c) (holdsAt S (o .1) c) (sym (ap (decides kind) says) ∙ h)))
+
+    module _ (s : Spanned) (spans : Spans q (i + 1) s) where
+      -- or the second does
+      pub holds-second : (d m j : ℕ) (r : Asked) → decides kind a ≡ false → s ≡ Tree d m j → Holds q j S c r → Holds q i S c r
+      unfolding Spans
+      holds-second d m j r h f g t k p =
+          let o = operands q i S c kind two e t k p in
+          let says = first (o .0) (o .2) (o .4) in
+          let one : Spans q (i + 1) (Tree d m j) = rw f at spans in
+          g (o .1) k (subst (λ (x : ℕ). Parsed q x (o .1) k) (parsed-one (o .4) (one .1) .1) (o .5))
+          ∙ ap (λ (b : Bool). Said b) (sym (o .3 ∙ undecided (any kind) (holdsAt S (o .0) c) (holdsAt S (o .1) c) (sym (ap (decides kind) says) ∙ h)))
+
+      pub holds-unspanned : (r : Refusal) (b : Asked) → s ≡ Refused r → Holds q i S c b
+      unfolding Spans
+      holds-unspanned r b f t k p =
+          let o = operands q i S c kind two e t k p in
+          let none : Spans q (i + 1) (Refused r) = rw f at spans in
+          absurd (none .1 (o .0) (o .2) (o .4))
+
+  pub holds-least : (d : Direction) (l n low high : ℕ) (m : Counted) → entryAt q i ≡ some (AtLeast d l n) → Own S c d l low high → Counts q (i + 1) S low high m → Holds q i S c (reached n m)
   unfolding holdsAt
-  says-and-no a h e f t k p =
-      let o = parsed-and p e in
-      rw (o .3) (h ∙ sym (ap (λ (x : Bool). x && holdsAt S (o .1) c) (sym (f (o .0) (o .2) (o .4)) ∙ h)))
-
-  pub says-or-yes : (a : Bool) → a ≡ true → entryAt q i ≡ some Or → Says q (i + 1) S c a → Says q i S c a
-  unfolding holdsAt
-  says-or-yes a h e f t k p =
-      let o = parsed-or p e in
-      rw (o .3) (h ∙ sym (ap (λ (x : Bool). x || holdsAt S (o .1) c) (sym (f (o .0) (o .2) (o .4)) ∙ h)))
-
-  -- or the second does, which stands where the first ends
-  module _ (j : ℕ) (end : Ends q (i + 1) j) where
-    second : (t u : Question) (m k : ℕ) → Parsed q (i + 1) t m → Parsed q m u k → Parsed q j u k
-    second t u m k first p = subst (λ (x : ℕ). Parsed q x u k) (sym (end .1 t m first)) p
-
-    pub says-and : (a r : Bool) → a ≡ true → entryAt q i ≡ some And → Says q (i + 1) S c a → Says q j S c r → Says q i S c r
-    unfolding holdsAt
-    says-and a r h e f g t k p =
-        let o = parsed-and p e in
-        rw (o .3) (ap₂ (λ (x y : Bool). x && y) (sym h ∙ f (o .0) (o .2) (o .4)) (g (o .1) k (second (o .0) (o .1) (o .2) k (o .4) (o .5))))
-
-    pub says-or : (a r : Bool) → a ≡ false → entryAt q i ≡ some Or → Says q (i + 1) S c a → Says q j S c r → Says q i S c r
-    unfolding holdsAt
-    says-or a r h e f g t k p =
-        let o = parsed-or p e in
-        rw (o .3) (ap₂ (λ (x y : Bool). x || y) (sym h ∙ f (o .0) (o .2) (o .4)) (g (o .1) k (second (o .0) (o .1) (o .2) k (o .4) (o .5))))
-
-  pub says-least : (d : Direction) (l n m low high : ℕ) → entryAt q i ≡ some (AtLeast d l n) → Own S c d l low high → Counts q (i + 1) S low high m → Says q i S c (leb n m)
-  unfolding holdsAt
-  says-least d l n m low high e own f t k p =
+  holds-least d l n low high m e own f t k p =
       let o = parsed-least p e in
-      rw (o .1) (ap (leb n) (f (o .0) k (o .2) ∙ sym (counted-own S c d l low high own (λ g. holdsAt S (o .0) (lowestClass S g)))))
+      rw (o .1) (ap (reached n) (f (o .0) k (o .2)) ∙ ap (λ (x : ℕ). Said (leb n x)) (sym (counted-own S c d l low high own (λ g. holdsAt S (o .0) (lowestClass S g)))))
 
 -- ---- the count, row by row
 
 module _ (q : List ℕ) (i : ℕ) (S : Summary) (row end : ℕ) where
-  pub counts-none : end ≤ row → Counts q i S row end 0
+  pub counts-none : end ≤ row → Counts q i S row end (Sum 0)
   unfolding sum
   counts-none h t k p = let e : end - row ≡ 0 = omega arith in rw e
 
@@ -124,15 +161,28 @@ module _ (q : List ℕ) (i : ℕ) (S : Summary) (row end : ℕ) where
       let same = sum-same (λ j. adds S t (row + suc j)) (λ j. adds S t (row + 1 + j)) (end - (row + 1)) (λ j u. let b : row + suc j ≡ row + 1 + j = omega arith in ap (adds S t) b) in
       ap₂ _+_ (ap (adds S t) (sym a)) (e ∙ sym same) ∙ sym (ap (sum (λ j. adds S t (row + j))) z ∙ sum-front (λ j. adds S t (row + j)) (end - (row + 1)))
 
-  module _ (r x : ℕ) (h : row < end) (asked : x ≡ lowestClass S ((rowOf S row) .group)) (rest : Counts q i S (row + 1) end r) where
-    here : (b y : Bool) → y ≡ b → Says q i S x y → (t : Question) (k : ℕ) → Parsed q i t k → adds S t row ≡ cond b ((rowOf S row) .count) 0
-    here b y e f t k p = ap (λ (y : Bool). cond y ((rowOf S row) .count) 0) (ap (holdsAt S t) (sym asked) ∙ sym (f t k p) ∙ e)
+  module _ (a : Counted) (rest : Counts q i S (row + 1) end a) where
+    pub counts-unsummed : (r : Refusal) (b : Counted) → a ≡ Uncounted r → Counts q i S row end b
+    counts-unsummed r b e t k p = absurd (uncounted a _ r (rest t k p) e)
 
-    pub counts-out : (y : Bool) → y ≡ false → Says q i S x y → Counts q i S row end r
-    counts-out y e f t k p = omega (arith, step t r h (rest t k p), here false y e f t k p)
+    module _ (x : ℕ) (asked : x ≡ lowestClass S ((rowOf S row) .group)) (y : Asked) (says : Holds q i S x y) where
+      pub counts-unasked : (r : Refusal) (b : Counted) → y ≡ NotSaid r → Counts q i S row end b
+      counts-unasked r b e t k p = absurd (not-refused y _ r (says t k p) e)
 
-    pub counts-in : (y : Bool) (m : ℕ) → y ≡ true → m ≡ (rowOf S row) .count → Says q i S x y → Counts q i S row end (r + m)
-    counts-in y m e g f t k p = omega (arith, step t r h (rest t k p), here true y e f t k p, g)
+      module _ (h : row < end) (r : ℕ) (e : a ≡ Sum r) where
+        here : (b : Bool) → y ≡ Said b → (t : Question) (k : ℕ) → Parsed q i t k → adds S t row ≡ cond b ((rowOf S row) .count) 0
+        here b f t k p =
+            let same : holdsAt S t x ≡ b = said-one y _ b (says t k p) f in
+            ap (λ (y : Bool). cond y ((rowOf S row) .count) 0) (ap (holdsAt S t) (sym asked) ∙ same)
+
+        behind : (t : Question) (k : ℕ) → Parsed q i t k → adds S t row + r ≡ sum (λ j. adds S t (row + j)) (end - row)
+        behind t k p = step t r h (ap sumOf (sym e ∙ rest t k p))
+
+        pub counts-out : (b : Bool) → b ≡ false → y ≡ Said b → Counts q i S row end (Sum r)
+        counts-out b f g t k p = ap (λ (n : ℕ). Sum n) (omega (arith, behind t k p, here false (g ∙ ap (λ (b : Bool). Said b) f) t k p))
+
+        pub counts-in : (b : Bool) (m : ℕ) → b ≡ true → y ≡ Said b → m ≡ (rowOf S row) .count → Counts q i S row end (Sum (r + m))
+        counts-in b m f g u t k p = ap (λ (n : ℕ). Sum n) (omega (arith, behind t k p, here true (g ∙ ap (λ (b : Bool). Said b) f) t k p, u))
 
 -- ---- the file
 
@@ -171,20 +221,19 @@ module _ (s keys lowest : List ℕ) (w : Consulted s keys lowest) (j : ℕ) (h :
       let same : x ≡ lowestClass S ((rowOf S j) .group) = f ∙ ap (λ (g : ℕ). getD lowest g 0) e ∙ w .lowest-are ((rowOf S j) .group) low in
       (same, rw same (lowest-below S well ((rowOf S j) .group) low))
 
--- ---- the whole question, asked from entry 0
-
-pub whole-holds : (q : List ℕ) (t : Question) (S : Summary) (c : ℕ) (r : Bool) → question q ≡ some t → Says q 0 S c r → r ≡ holdsAt S t c
-whole-holds q t S c r e says = says t _ (parsed-question q t e)
-
 -- ---- the classes, one after another
 
 -- the first k classes are answered
 abbrev pub Answered : List ℕ → Summary → List Bool → ℕ → Type 0
 Answered q S answers k = (t : Question) (m : ℕ) → Parsed q 0 t m → (i : ℕ) → i < k → getD answers i false ≡ holdsAt S t i
 
-pub one-answered : (q : List ℕ) (S : Summary) (answers : List Bool) (k : ℕ) (r : Bool) → k < length answers → ((t : Question) (m : ℕ) → Parsed q 0 t m → r ≡ holdsAt S t k) →
+pub one-answered : (q : List ℕ) (S : Summary) (answers : List Bool) (k : ℕ) (a : Asked) (r : Bool) → k < length answers → Holds q 0 S k a → a ≡ Said r →
     Answered q S answers k → Answered q S (set answers k r) (k + 1)
-one-answered q S answers k r h e a t m p i u =
+one-answered q S answers k a r h holds e answered t m p i u =
     by-eq i k
-    (λ z. rw z (getD-set-same answers k r false h ∙ e t m p))
-    (λ z. getD-set-other answers k i r false z ∙ a t m p i (omega arith))
+    (λ z. rw z (getD-set-same answers k r false h ∙ said-one a r _ e (holds t m p)))
+    (λ z. getD-set-other answers k i r false z ∙ answered t m p i (omega arith))
+
+-- a class that is refused is not asked by a tree
+pub not-answered : (q : List ℕ) (S : Summary) (answers : List Bool) (k : ℕ) (a : Asked) (r : Refusal) (f : Filled) → Holds q 0 S k a → a ≡ NotSaid r → Answers q S f answers
+not-answered q S answers k a r f holds e t m p = absurd (not-refused a _ r (holds t m p) e)

@@ -1,15 +1,27 @@
--- What is at hand where a question is asked of a summary, which rows are a class's own in a direction and label, and what a row adds to a
--- count of neighbours. Leans on meaning's Summary and on wellformed's Keys.
-use Prim.Native.Nat.{ℕ, _≤_, _<_}
+-- What is at hand where a question is asked of a summary, which rows are a class's own in a direction and label, what a row adds to a count
+-- of neighbours, and what the answers say. Leans on meaning's Summary, on question's trees and on wellformed's Keys.
+use Prim.Native.Nat.{ℕ, _+_, _-_, _≤_, _<_}
 use mathlib.Core.Path.{_≡_}
-use mathlib.Core.Bool.{true, false, cond}
+use mathlib.Core.Bool.{Bool, true, false, not, cond}
 use mathlib.Core.List.{List}
+use lib.Dec.{leb}
 use lib.ListN.{length, getD}
+use Rattle.meaning.specs.Count.{sum}
 use Rattle.meaning.specs.declared.Direction.{Direction}
+use Rattle.meaning.specs.declared.Kind.{Kind}
+use Rattle.meaning.specs.declared.Kind.the-variants.{True, Literal, Not, And, Or, AtLeast}
 use Rattle.meaning.specs.Question.{Question}
 use Rattle.meaning.specs.Summary.{Summary, rowOf, rowFor, lowestClass, holdsAt}
 use Rattle.files.specs.SummaryFile.{summaryIn, wellFormedFile}
+use Rattle.files.specs.declared.Refusal.the-variants.{Question as Malformation}
+use Rattle.question.specs.declared.Asked.{Asked}
+use Rattle.question.specs.declared.Asked.the-variants.{Said, Refused as NotSaid}
+use Rattle.question.specs.declared.Filled.{Filled}
+use Rattle.question.specs.declared.Filled.the-variants.{Done}
+use Rattle.question.specs.Read.{Parsed}
 use Rattle.wellformed.specs.Keys.{Keyed}
+use Rattle.consult.specs.declared.Counted.{Counted}
+use Rattle.consult.specs.declared.Counted.the-variants.{Sum, Refused}
 
 -- a well-formed summary, the keys of its rows, and the lowest-numbered class of each group
 pub record Consulted (s keys lowest : List ℕ) : Type 0 where
@@ -30,3 +42,44 @@ pub record Own (S : Summary) (k : ℕ) (d : Direction) (l low high : ℕ) : Type
 -- what row j adds: its count, where the operand holds "at the group's lowest-numbered class"
 abbrev pub adds : Summary → Question → ℕ → ℕ
 adds S t j = cond (holdsAt S t (lowestClass S ((rowOf S j) .group))) ((rowOf S j) .count) 0
+
+-- r is whether the tree at entry i holds at class c
+abbrev pub Holds : List ℕ → ℕ → Summary → ℕ → Asked → Type 0
+Holds q i S c r = (t : Question) (k : ℕ) → Parsed q i t k → r ≡ Said (holdsAt S t c)
+
+-- r is the sum of the rows from row up to end, for the tree at entry i
+abbrev pub Counts : List ℕ → ℕ → Summary → ℕ → ℕ → Counted → Type 0
+Counts q i S row end r = (t : Question) (k : ℕ) → Parsed q i t k → r ≡ Sum (sum (λ j. adds S t (row + j)) (end - row))
+
+-- every class is answered
+abbrev pub Answers : List ℕ → Summary → Filled → List Bool → Type 0
+Answers q S r answers = (t : Question) (k : ℕ) → Parsed q 0 t k → (r ≡ Done) × ((c : ℕ) → c < length (S .classes) → getD answers c false ≡ holdsAt S t c)
+
+-- the number that a count is
+abbrev pub sumOf : Counted → ℕ
+sumOf (Sum n) = n
+sumOf (Refused r) = 0
+
+-- "not, one operand"
+abbrev pub turned : Asked → Asked
+turned (Said b) = Said (not b)
+turned (NotSaid r) = NotSaid r
+
+-- of the two operands of an entry one is enough
+abbrev pub any : Kind → Bool
+any True = false
+any (Literal k) = false
+any Not = false
+any And = false
+any Or = true
+any (AtLeast d l n) = false
+
+-- "and, or": whether the first operand decides
+abbrev pub decides : Kind → Asked → Bool
+decides k (Said b) = cond (any k) b (not b)
+decides k (NotSaid r) = true
+
+-- "at least t"
+abbrev pub reached : ℕ → Counted → Asked
+reached t (Sum n) = Said (leb t n)
+reached t (Refused r) = NotSaid Malformation

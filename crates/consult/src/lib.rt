@@ -1,23 +1,30 @@
 // Whether a question holds at a class of a summary: "whether an entry holds asks for a count of neighbours, and that count asks whether the
 // operand holds". Leans on question for the entries, on reader for the file's numbers and on seek for a class's rows.
+use files::Refusal;
 use meaning::Direction;
 use meaning::Kind;
 use names::Class;
 use names::Group;
+use question::Asked;
+use question::Filled;
 use question::Reading;
 use question::Spanned;
 ghost use mathlib.Core.Path.{_≡_};
-ghost use mathlib.Core.Bool.{true, false};
-ghost use Prim.Native.Nat.{ℕ, _+_, _-_, _*_, _/_, _≤_, _<_};
+ghost use mathlib.Core.Bool.{true};
+ghost use Prim.Native.Nat.{ℕ, _-_, _*_, _≤_, _<_};
 ghost use lib.ListN.{length, getD};
-ghost use Rattle.meaning.specs.Count.{sum};
-ghost use Rattle.meaning.specs.Question.{Question};
-ghost use Rattle.meaning.specs.Summary.{lowestClass, holdsAt};
+ghost use Rattle.meaning.specs.Summary.{lowestClass};
 ghost use Rattle.meaning.specs.WellFormed as meant;
 ghost use Rattle.files.specs.SummaryFile.{summaryIn, wellFormedFile};
-ghost use Rattle.question.specs.Read.{Parsed};
 ghost use Rattle.wellformed.specs.Keys.{Keyed};
-ghost use Rattle.consult.specs.Consulted.{Consulted, Own, adds};
+ghost use Rattle.consult.specs.Consulted.{Consulted, Own, sumOf, Holds, Counts, Answers};
+ghost use Rattle.consult.specs.Consulted as consulted;
+
+// A count of neighbours.
+enum Counted {
+    Sum(u32),
+    Refused(Refusal),
+}
 
 // The rows from `low` up to `high`.
 struct Rows {
@@ -27,7 +34,7 @@ struct Rows {
 
 // "the group's lowest-numbered class", for each group. From the last class to the first, each is entered at its group, so that the lowest
 // is the last to be.
-pub fn put_lowest(s: &[u8], lowest: &mut [u16])
+fn put_lowest(s: &[u8], lowest: &mut [u16])
     requires { ⌜ (wellFormedFile (now s) ≡ true) × (length (now lowest) ≡ 1024) ⌝ }
     ensures { λ _. ⌜ (length (now (lowest .exit)) ≡ 1024) × ((g : ℕ) → g < summaryIn (now (s .entry)) .groups → getD (now (lowest .exit)) g 0 ≡ lowestClass (summaryIn (now (s .entry))) g) ⌝ }
 {
@@ -71,56 +78,69 @@ fn rows_of(s: &[u8], keys: &[u64], class: Class, direction: Direction, label: u8
     Rows { low, high }
 }
 
-// The entry after the tree that stands at entry `at`.
-fn after(q: &[u8], at: usize) -> usize
-    requires { ⌜ at ≤ length (now q) / 4 ⌝ }
-    ensures { λ r. ⌜ (at < r) × ((t : Question) (k : ℕ) → Parsed (now (q .entry)) at t k → r ≡ k) ⌝ }
+// Whether the question holds at the class.
+pub fn ask(q: &[u8], s: &[u8], keys: &[u64], class: Class) -> Asked
+    requires { ⌜ (wellFormedFile (now s) ≡ true) × (length (now keys) ≡ 4096) × Keyed true (summaryIn (now s)) (now keys) × (class .0 < length (summaryIn (now s) .classes)) ⌝ }
+    ensures { λ r. ⌜ Holds (now (q .entry)) 0 (summaryIn (now (s .entry))) (class .0) r ⌝ }
 {
-    let Spanned::Tree {
-        depth: _,
-        threshold: _,
-        next,
-    } = question::span(q, at)
-    else {
-        // Never taken where a tree stands: a malformed question was refused before, with 5.
-        return at + 1;
-    };
-    next
+    let mut lowest = [0u16; 1024];
+    put_lowest(s, &mut lowest);
+    holds(q, 0, s, keys, &lowest, class)
 }
 
 // Whether the question holds at each class: "A question at an item of a summary is asked at its mapped class", so each class is asked once.
-pub fn put_answers(q: &[u8], s: &[u8], keys: &[u64], lowest: &[u16], answers: &mut [bool])
+pub fn put_answers(q: &[u8], s: &[u8], keys: &[u64], answers: &mut [bool]) -> Filled
+    requires { ⌜ (wellFormedFile (now s) ≡ true) × (length (now keys) ≡ 4096) × Keyed true (summaryIn (now s)) (now keys) × (length (now answers) ≡ 1024) ⌝ }
+    ensures { λ r. ⌜ Answers (now (q .entry)) (summaryIn (now (s .entry))) r (now (answers .exit)) ⌝ }
+{
+    let mut lowest = [0u16; 1024];
+    put_lowest(s, &mut lowest);
+    put_each(q, s, keys, &lowest, answers)
+}
+
+// Class by class.
+fn put_each(q: &[u8], s: &[u8], keys: &[u64], lowest: &[u16], answers: &mut [bool]) -> Filled
     requires { ⌜ Consulted (now s) (now keys) (now lowest) × (length (now answers) ≡ 1024) ⌝ }
-    ensures { λ _. ⌜ ((t : Question) (k : ℕ) → Parsed (now (q .entry)) 0 t k → (c : ℕ) → c < length (summaryIn (now (s .entry)) .classes) → getD (now (answers .exit)) c false ≡ holdsAt (summaryIn (now (s .entry))) t c) ⌝ }
+    ensures { λ r. ⌜ Answers (now (q .entry)) (summaryIn (now (s .entry))) r (now (answers .exit)) ⌝ }
 {
     let c = reader::classes(s);
     let mut k = 0;
     while k < c {
-        answers[k] = holds(q, 0, s, keys, lowest, Class(k as u16));
+        let Asked::Said(yes) = holds(q, 0, s, keys, lowest, Class(k as u16)) else {
+            return Filled::Refused(Refusal::Question);
+        };
+        answers[k] = yes;
         k += 1;
     }
+    Filled::Done
 }
 
 // Whether the tree at entry `at` holds at the class.
-pub fn holds(q: &[u8], at: usize, s: &[u8], keys: &[u64], lowest: &[u16], class: Class) -> bool
+fn holds(q: &[u8], at: usize, s: &[u8], keys: &[u64], lowest: &[u16], class: Class) -> Asked
     requires { ⌜ Consulted (now s) (now keys) (now lowest) × (class .0 < length (summaryIn (now s) .classes)) ⌝ }
-    ensures { λ r. ⌜ ((t : Question) (k : ℕ) → Parsed (now (q .entry)) at t k → r ≡ holdsAt (summaryIn (now (s .entry))) t (class .0)) ⌝ }
+    ensures { λ r. ⌜ Holds (now (q .entry)) at (summaryIn (now (s .entry))) (class .0) r ⌝ }
 {
     let Reading::Entry(kind) = question::entry(q, at) else {
-        // Never taken where a tree stands: a malformed question was refused before, with 5.
-        return false;
+        return Asked::Refused(Refusal::Question);
     };
     match kind {
-        Kind::True => true,
-        Kind::Literal(literal) => question::shows(reader::marks(s, class), literal),
-        Kind::Not => !holds(q, at + 1, s, keys, lowest, class),
-        Kind::And => {
-            holds(q, at + 1, s, keys, lowest, class)
-                && holds(q, after(q, at + 1), s, keys, lowest, class)
-        }
-        Kind::Or => {
-            holds(q, at + 1, s, keys, lowest, class)
-                || holds(q, after(q, at + 1), s, keys, lowest, class)
+        Kind::True => Asked::Said(true),
+        Kind::Literal(literal) => Asked::Said(question::shows(reader::marks(s, class), literal)),
+        Kind::Not => turned(holds(q, at + 1, s, keys, lowest, class)),
+        Kind::And | Kind::Or => {
+            let first = holds(q, at + 1, s, keys, lowest, class);
+            if decides(kind, first) {
+                return first;
+            }
+            let Spanned::Tree {
+                depth: _,
+                threshold: _,
+                next,
+            } = question::span(q, at + 1)
+            else {
+                return Asked::Refused(Refusal::Question);
+            };
+            holds(q, next, s, keys, lowest, class)
         }
         Kind::AtLeast {
             direction,
@@ -128,7 +148,8 @@ pub fn holds(q: &[u8], at: usize, s: &[u8], keys: &[u64], lowest: &[u16], class:
             threshold,
         } => {
             let own = rows_of(s, keys, class, direction, label);
-            threshold as u32 <= neighbour_count(q, at + 1, s, keys, lowest, own.low, own.high)
+            let count = neighbour_count(q, at + 1, s, keys, lowest, own.low, own.high);
+            reached(threshold, count)
         }
     }
 }
@@ -142,19 +163,57 @@ fn neighbour_count(
     lowest: &[u16],
     row: usize,
     end: usize,
-) -> u32
+) -> Counted
     requires { ⌜ Consulted (now s) (now keys) (now lowest) × (row ≤ end) × (end ≤ length (summaryIn (now s) .rows)) ⌝ }
-    ensures small { λ r. ⌜ r ≤ 8 * (end - row) ⌝ }
-    ensures { λ r. ⌜ ((t : Question) (k : ℕ) → Parsed (now (q .entry)) at t k → r ≡ sum (λ i. adds (summaryIn (now (s .entry))) t (row + i)) (end - row)) ⌝ }
+    ensures small { λ r. ⌜ sumOf r ≤ 8 * (end - row) ⌝ }
+    ensures { λ r. ⌜ Counts (now (q .entry)) at (summaryIn (now (s .entry))) row end r ⌝ }
 {
     if end <= row {
-        return 0;
+        return Counted::Sum(0);
     }
-    let rest = neighbour_count(q, at, s, keys, lowest, row + 1, end);
+    let Counted::Sum(rest) = neighbour_count(q, at, s, keys, lowest, row + 1, end) else {
+        return Counted::Refused(Refusal::Question);
+    };
     let asked = lowest_of(lowest, reader::row_group(s, row));
-    if holds(q, at, s, keys, lowest, asked) {
-        rest + reader::row_count(s, row) as u32
+    let Asked::Said(yes) = holds(q, at, s, keys, lowest, asked) else {
+        return Counted::Refused(Refusal::Question);
+    };
+    if yes {
+        Counted::Sum(rest + reader::row_count(s, row) as u32)
     } else {
-        rest
+        Counted::Sum(rest)
     }
+}
+
+// "not, one operand".
+fn turned(operand: Asked) -> Asked
+    ensures { λ r. ⌜ r ≡ consulted.turned operand ⌝ }
+{
+    let Asked::Said(yes) = operand else {
+        return operand;
+    };
+    Asked::Said(!yes)
+}
+
+// "and, or, two operands": whether the first one's answer is the whole's, so that the second need not be asked.
+fn decides(kind: Kind, first: Asked) -> bool
+    ensures { λ r. ⌜ r ≡ consulted.decides kind first ⌝ }
+{
+    let Asked::Said(yes) = first else {
+        return true;
+    };
+    match kind {
+        Kind::Or => yes,
+        _ => !yes,
+    }
+}
+
+// "at least t .. neighbours .. satisfy the operand".
+fn reached(threshold: u8, count: Counted) -> Asked
+    ensures { λ r. ⌜ r ≡ consulted.reached threshold count ⌝ }
+{
+    let Counted::Sum(neighbours) = count else {
+        return Asked::Refused(Refusal::Question);
+    };
+    Asked::Said(threshold as u32 <= neighbours)
 }

@@ -32,8 +32,8 @@ use Rattle.promise.proofs.Access.{items-at, links-at, accepted-so, refused-so}
 use Rattle.question.specs.Read as read
 use Rattle.question.proofs.Laws.{verdict-accepted, verdict-refused}
 use Rattle.register.specs.Told.{OfRegister}
-use Rattle.inquiry.specs.declared.Asked.{Asked}
-use Rattle.inquiry.specs.declared.Asked.the-variants as asks
+use Rattle.question.specs.declared.Asked.{Asked}
+use Rattle.question.specs.declared.Asked.the-variants as asks
 use Rattle.inquiry.specs.Known.{Whole, asked}
 use Rattle.hestovane.specs.Told.{Short}
 

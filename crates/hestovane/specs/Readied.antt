@@ -1,14 +1,11 @@
--- What a call on a summary has once summary and question are judged, and what the items of a list are. Leans on files and on wellformed's
--- Keys.
+-- What a call on a summary has once summary and question are judged. Leans on files and on wellformed's Keys.
 use mathlib.Core.Path.{_≡_}
 use mathlib.Core.Bool.{true}
 use mathlib.Core.List.{List}
 use mathlib.Core.Option.{some}
-use Prim.Native.Nat.{ℕ, _≤_}
-use lib.ListN.{length, take}
+use Prim.Native.Nat.{ℕ}
+use lib.ListN.{length}
 use Rattle.meaning.specs.Question.{Question, depth, threshold}
-use Rattle.meaning.specs.Summary.{Summary}
-use Rattle.meaning.specs.Summary
 use Rattle.files.specs.QuestionFile.{question}
 use Rattle.files.specs.SummaryFile.{summaryIn, wellFormedFile}
 use Rattle.wellformed.specs.Keys.{Keyed}
@@ -22,8 +19,3 @@ pub record Readied (s keys q : List ℕ) (d h : ℕ) : Type 0 where
   pub reads : question q ≡ some tree
   pub depth-is : depth tree ≡ d
   pub threshold-is : threshold tree ≡ h
-
--- the first r numbers are the list
-pub record Named (S : Summary) (t : Question) (r : ℕ) (named : List ℕ) : Type 0 where
-  pub few : r ≤ 1024
-  pub list-is : take r named ≡ Summary.list S t

@@ -2,27 +2,23 @@
 // contract is an equation with the call's one definition in files' Answers. The exported functions give the same as one number.
 use condense::Wrote;
 use files::Refusal;
-use inquiry::Asked;
 use names::Item;
+use question::Asked;
+use question::Filled;
 use register::Judged;
 ghost use mathlib.Core.Path.{_≡_};
-ghost use mathlib.Core.Bool.{true};
-ghost use mathlib.Core.Option.{some};
 ghost use Prim.Native.Nat.{_≤_};
 ghost use lib.ListN.{length, take};
-ghost use Rattle.meaning.specs.Question.{Question};
 ghost use Rattle.files.specs.QuestionFile.{question};
 ghost use Rattle.files.specs.Refusals.{numberOf};
 ghost use Rattle.files.specs.Bytes.{put2, pack};
-ghost use Rattle.files.specs.SummaryFile.{summaryIn, wellFormedFile};
 ghost use Rattle.files.specs.Answers.{word, number, returned, code, left, into, askTree, askRegister, askSummary};
 ghost use Rattle.files.specs.Answers as answers;
 ghost use Rattle.register.specs.Told.{OfRegister};
 ghost use Rattle.condense.specs.Written as written;
 ghost use Rattle.condense.specs.Written.{Gives};
 ghost use Rattle.inquiry.specs.Known.{Whole};
-ghost use Rattle.wellformed.specs.Keys.{Keyed};
-ghost use Rattle.hestovane.specs.Readied.{Readied, Named};
+ghost use Rattle.hestovane.specs.Readied.{Readied};
 ghost use Rattle.hestovane.specs.Told.{told, Short};
 
 // Yes, no, or the refusal.
@@ -154,10 +150,10 @@ fn ask_read(s: &[u8], keys: &[u64], q: &[u8], depth: usize, threshold: usize, it
     if reader::items(s) <= item as usize {
         return Said::Refused(Refusal::Item);
     }
-    let mut lowest = [0u16; 1024];
-    consult::put_lowest(s, &mut lowest);
-    let class = reader::class_of(s, Item(item));
-    spoken(consult::holds(q, 0, s, keys, &lowest, class))
+    let Asked::Said(yes) = consult::ask(q, s, keys, reader::class_of(s, Item(item))) else {
+        return Said::Refused(Refusal::Question);
+    };
+    spoken(yes)
 }
 
 // The items of the summary where the question holds, into the lent buffer: "list from a summary 6, 5, 7, 9".
@@ -177,7 +173,7 @@ pub fn list(s: &[u8], q: &[u8], out: &mut [u8]) -> Wrote
     }
 }
 
-// And then 7, the items, and 9.
+// And then 7, the items, a class asked once and not once an item, and 9.
 fn list_read(
     s: &[u8],
     keys: &[u64],
@@ -192,21 +188,13 @@ fn list_read(
     if reach::beyond(s, depth, threshold) {
         return Wrote::Refused(Refusal::Beyond);
     }
-    let mut named = [0u16; 1024];
-    let r = put_named(s, keys, q, &mut named);
-    put_list(&named, r, out)
-}
-
-// The items where the question holds, a class asked once and not once an item.
-fn put_named(s: &[u8], keys: &[u64], q: &[u8], named: &mut [u16]) -> usize
-    requires { ⌜ (wellFormedFile (now s) ≡ true) × (length (now keys) ≡ 4096) × Keyed true (summaryIn (now s)) (now keys) × (length (now named) ≡ 1024) ⌝ }
-    ensures { λ r. ⌜ ((t : Question) → question (now (q .entry)) ≡ some t → Named (summaryIn (now (s .entry))) t r (now (named .exit))) ⌝ }
-{
-    let mut lowest = [0u16; 1024];
-    consult::put_lowest(s, &mut lowest);
     let mut answers = [false; 1024];
-    consult::put_answers(q, s, keys, &lowest, &mut answers);
-    listed::put_items(s, &answers, named)
+    let Filled::Done = consult::put_answers(q, s, keys, &mut answers) else {
+        return Wrote::Refused(Refusal::Question);
+    };
+    let mut named = [0u16; 1024];
+    let r = listed::put_items(s, &answers, &mut named);
+    put_list(&named, r, out)
 }
 
 // "9: output buffer shorter than the answer", known before a byte is written; "A list is two bytes an item".

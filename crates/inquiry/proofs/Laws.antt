@@ -27,8 +27,8 @@ use Rattle.question.specs.declared.Spanned.the-variants.{Tree, Refused}
 use Rattle.question.specs.Read.{kindOf, entryAt, Parsed, Spans}
 use Rattle.question.proofs.Laws.{clash, within-question, forward, ends, parsed-true, parsed-literal, parsed-not, parsed-and, parsed-or, parsed-least, parsed-one, parsed-question, question-length, everywhere, every-entry}
 use Rattle.table.specs.Row.{row, Writes, paired, Counts}
-use Rattle.inquiry.specs.declared.Filled.{Filled}
-use Rattle.inquiry.specs.declared.Filled.the-variants.{Done, Refused as NotFilled}
+use Rattle.question.specs.declared.Filled.{Filled}
+use Rattle.question.specs.declared.Filled.the-variants.{Done, Refused as NotFilled}
 use Rattle.inquiry.specs.Known.{Whole, Known, pairKind, asked}
 
 -- what is written is what it is equal to

@@ -12,10 +12,10 @@ use Rattle.meaning.specs.declared.Kind.the-variants.{And, Or}
 use Rattle.files.specs.QuestionFile.{question}
 use Rattle.question.specs.Read.{Parsed}
 use Rattle.table.specs.Row.{row}
-use Rattle.inquiry.specs.declared.Filled.{Filled}
-use Rattle.inquiry.specs.declared.Filled.the-variants.{Done}
-use Rattle.inquiry.specs.declared.Asked.{Asked}
-use Rattle.inquiry.specs.declared.Asked.the-variants as asks
+use Rattle.question.specs.declared.Filled.{Filled}
+use Rattle.question.specs.declared.Filled.the-variants.{Done}
+use Rattle.question.specs.declared.Asked.{Asked}
+use Rattle.question.specs.declared.Asked.the-variants as asks
 
 -- the bytes are a well-formed question
 pub record Whole (q : List ℕ) : Type 0 where

@@ -4,6 +4,8 @@ use files::Refusal;
 use meaning::Direction;
 use meaning::Kind;
 use names::Item;
+use question::Asked;
+use question::Filled;
 use question::Reading;
 use question::Spanned;
 ghost use mathlib.Core.Path.{_≡_};
@@ -20,18 +22,6 @@ ghost use Rattle.question.specs.Read.{entryAt};
 ghost use Rattle.table.specs.Row.{Room, row, Writes};
 ghost use Rattle.register.specs.Told.{OfRegister};
 ghost use Rattle.inquiry.specs.Known.{Whole, Known, Fills, pairKind, asked, Said};
-
-// Whether every entry so far has its row.
-pub enum Filled {
-    Done,
-    Refused(Refusal),
-}
-
-// Whether the question holds at the item.
-pub enum Asked {
-    Said(bool),
-    Refused(Refusal),
-}
 
 // "On a register, neighbours are counted exactly and any depth is allowed."
 pub fn ask(reg: &[u8], n: usize, m: usize, q: &[u8], x: Item) -> Asked

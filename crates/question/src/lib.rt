@@ -41,6 +41,18 @@ pub enum Judged {
     Refused(Refusal),
 }
 
+// Whether a question holds where it was asked.
+pub enum Asked {
+    Said(bool),
+    Refused(Refusal),
+}
+
+// Whether a question was answered everywhere.
+pub enum Filled {
+    Done,
+    Refused(Refusal),
+}
+
 // "signed": the byte as a number from −128 to 127.
 fn signed(b: u8) -> i8
     ensures { λ r. ⌜ r ≡ file.signed b ⌝ }

@@ -11,9 +11,11 @@ use Rattle.meaning.specs.declared.Kind.the-variants.{Literal}
 use Rattle.files.specs.SummaryFile.{summaryIn}
 use Rattle.question.specs.Read.{entryAt}
 use Rattle.question.proofs.Laws.{is-entry, within-entry, literal-back, literal-read, least-read}
+use Rattle.question.proofs.Steps.{Two, two-of}
 use Rattle.reader.specs.Sized.{HasRow}
 use Rattle.wellformed.proofs.Laws.{well-file, sized-file}
-use Rattle.consult.proofs.Laws.{says-none, says-true, says-literal, says-not, says-and, says-and-no, says-or, says-or-yes, says-least, counts-none, counts-in, counts-out, sum-most, group-below, lowest-asked}
+use Rattle.consult.specs.Consulted.{sumOf}
+use Rattle.consult.proofs.Laws.{holds-none, holds-true, holds-literal, holds-not, holds-first, holds-second, holds-unspanned, spans-on, holds-least, counts-none, counts-unsummed, counts-unasked, counts-in, counts-out, sum-most, group-below, lowest-asked}
 use borrow.Author.Needs.{needs}
 use borrow.Fn.Kinds.{In}
 use borrow.Fn.PlainCycle.{Measures, is, falls, and}
@@ -23,11 +25,14 @@ use Rattle.consult.proofs.+holds+neighbour_count.Lts-holds as holds-lts
 use Rattle.consult.proofs.neighbour_count.Reads as count
 use Rattle.consult.proofs.neighbour_count.Kinds as count-kinds
 use Rattle.consult.proofs.+holds+neighbour_count.Lts-neighbour_count as count-lts
-use Rattle.consult.proofs.after.Reads as after-reads
+use Rattle.consult.proofs.decides.Reads as decides-reads
 use Rattle.consult.proofs.lowest_of.Reads as lowest-of-reads
+use Rattle.consult.proofs.reached.Reads as reached-reads
 use Rattle.consult.proofs.rows_of.Reads as rows-of-reads
+use Rattle.consult.proofs.turned.Reads as turned-reads
 use Rattle.question.proofs.entry.Reads as entry-reads
 use Rattle.question.proofs.shows.Reads as shows-reads
+use Rattle.question.proofs.span.Reads as span-reads
 use Rattle.reader.proofs.marks.Reads as marks-reads
 use Rattle.reader.proofs.row_count.Reads as row-count-reads
 use Rattle.reader.proofs.row_group.Reads as row-group-reads
@@ -63,12 +68,18 @@ holds-given t = (
   shows-reads.Learnt,
   holds-below t,
   holds.Post,
-  after-reads.Asked,
-  after-reads.Learnt,
+  turned-reads.Asked,
+  turned-reads.Learnt,
+  decides-reads.Asked,
+  decides-reads.Learnt,
+  span-reads.Asked,
+  span-reads.Learnt,
   rows-of-reads.Asked,
   rows-of-reads.Learnt,
   count-below t,
   count.Post,
+  reached-reads.Asked,
+  reached-reads.Learnt,
 )
 
 abbrev count-given : ℕ → count-lts.Claims
@@ -99,7 +110,7 @@ holds-enum-told : (t : ℕ) → holds-lts.Need-enum-told (holds-given t) (holds-
 holds-enum-told t c = search needs
 
 holds-returns : (t : ℕ) → holds-lts.Need-returns (holds-given t) (holds-at t) holds.Post
-holds-returns t c = says-none _ _ _ _ _ _ (c .before .before .entry .ensures) (c .enum-told .given .1)
+holds-returns t c = holds-none _ _ _ _ _ _ (c .before .before .entry .ensures) (c .enum-told .given .1)
 
 holds-enum-told-2 : (t : ℕ) → holds-lts.Need-enum-told-2 (holds-given t) (holds-at t) holds.Post
 holds-enum-told-2 t c = search needs
@@ -122,41 +133,38 @@ holds-add-holds t c = omega (arith, inside t (c .before .before))
 holds-holds-requires : (t : ℕ) → holds-lts.Need-holds-requires (holds-given t) (holds-at t) holds.Post
 holds-holds-requires t c κs = let s = start t (c .before .before) in (omega (arith, inside t (c .before .before), s .pre .0), s .pre .1)
 
+holds-turned-requires : (t : ℕ) → holds-lts.Need-turned-requires (holds-given t) (holds-at t) holds.Post
+holds-turned-requires t c κs = search needs
+
+holds-add-holds-2 : (t : ℕ) → holds-lts.Need-add-holds-2 (holds-given t) (holds-at t) holds.Post
+holds-add-holds-2 t c = omega (arith, inside t (c .before))
+
+holds-holds-requires-2 : (t : ℕ) → holds-lts.Need-holds-requires-2 (holds-given t) (holds-at t) holds.Post
+holds-holds-requires-2 t c κs = let s = start t (c .before) in (omega (arith, inside t (c .before), s .pre .0), s .pre .1)
+
+holds-decides-requires : (t : ℕ) → holds-lts.Need-decides-requires (holds-given t) (holds-at t) holds.Post
+holds-decides-requires t c κs = search needs
+
+holds-returns-2 : (t : ℕ) → holds-lts.Need-returns-2 (holds-given t) (holds-at t) holds.Post
+holds-returns-2 t c = holds-first _ _ _ _ _ (two-of _ (c .before .before .before .match2 .keys4)) (reads-as t (c .before .before .before .before)) _ (c .before .before .holds2 .ensures) (sym (c .before .decides .ensures) ∙ c .if1 .taken)
+
+holds-add-span : (t : ℕ) → holds-lts.Need-add-span (holds-given t) (holds-at t) holds.Post
+holds-add-span t c = omega (arith, inside t (c .before .before .before .before))
+
+holds-span-requires : (t : ℕ) → holds-lts.Need-span-requires (holds-given t) (holds-at t) holds.Post
+holds-span-requires t c κs = search needs
+
+holds-enum-known-next : (t : ℕ) → holds-lts.Need-enum-known-next (holds-given t) (holds-at t) holds.Post
+holds-enum-known-next t c = search needs
+
 holds-enum-told-4 : (t : ℕ) → holds-lts.Need-enum-told-4 (holds-given t) (holds-at t) holds.Post
 holds-enum-told-4 t c = search needs
 
-holds-add-holds-2 : (t : ℕ) → holds-lts.Need-add-holds-2 (holds-given t) (holds-at t) holds.Post
-holds-add-holds-2 t c = omega (arith, inside t (c .before .before))
-
-holds-holds-requires-2 : (t : ℕ) → holds-lts.Need-holds-requires-2 (holds-given t) (holds-at t) holds.Post
-holds-holds-requires-2 t c κs = let s = start t (c .before .before) in (omega (arith, inside t (c .before .before), s .pre .0), s .pre .1)
-
-holds-add-after : (t : ℕ) → holds-lts.Need-add-after (holds-given t) (holds-at t) holds.Post
-holds-add-after t c = omega (arith, inside t (c .before .before .before .before))
-
-holds-after-requires : (t : ℕ) → holds-lts.Need-after-requires (holds-given t) (holds-at t) holds.Post
-holds-after-requires t c κs = omega (arith, inside t (c .before .before .before .before))
+holds-returns-3 : (t : ℕ) → holds-lts.Need-returns-3 (holds-given t) (holds-at t) holds.Post
+holds-returns-3 t c = holds-unspanned _ _ _ _ _ (two-of _ (c .before .before .before .before .before .before .match2 .keys4)) (reads-as t (c .before .before .before .before .before .before .before)) _ (c .before .before .before .before .before .holds2 .ensures) _ (c .before .before .span .ensures) _ _ (c .enum-told4 .given .1)
 
 holds-holds-requires-3 : (t : ℕ) → holds-lts.Need-holds-requires-3 (holds-given t) (holds-at t) holds.Post
-holds-holds-requires-3 t c κs = let s = start t (c .before .before .before .before .before) in (omega (arith, inside t (c .before .before .before .before .before), s .pre .0, c .after .ensures .0), s .pre .1)
-
-holds-enum-told-5 : (t : ℕ) → holds-lts.Need-enum-told-5 (holds-given t) (holds-at t) holds.Post
-holds-enum-told-5 t c = search needs
-
-holds-add-holds-3 : (t : ℕ) → holds-lts.Need-add-holds-3 (holds-given t) (holds-at t) holds.Post
-holds-add-holds-3 t c = omega (arith, inside t (c .before .before))
-
-holds-holds-requires-4 : (t : ℕ) → holds-lts.Need-holds-requires-4 (holds-given t) (holds-at t) holds.Post
-holds-holds-requires-4 t c κs = let s = start t (c .before .before) in (omega (arith, inside t (c .before .before), s .pre .0), s .pre .1)
-
-holds-add-after-2 : (t : ℕ) → holds-lts.Need-add-after-2 (holds-given t) (holds-at t) holds.Post
-holds-add-after-2 t c = omega (arith, inside t (c .before .before .before .before))
-
-holds-after-requires-2 : (t : ℕ) → holds-lts.Need-after-requires-2 (holds-given t) (holds-at t) holds.Post
-holds-after-requires-2 t c κs = omega (arith, inside t (c .before .before .before .before))
-
-holds-holds-requires-5 : (t : ℕ) → holds-lts.Need-holds-requires-5 (holds-given t) (holds-at t) holds.Post
-holds-holds-requires-5 t c κs = let s = start t (c .before .before .before .before .before) in (omega (arith, inside t (c .before .before .before .before .before), s .pre .0, c .after2 .ensures .0), s .pre .1)
+holds-holds-requires-3 t c κs = let s = start t (c .before .before .before .before .before .before .before .before) in (omega (arith, inside t (c .before .before .before .before .before .before .before .before), s .pre .0, spans-on _ _ _ (c .before .before .before .span .ensures) _ _ _ (c .before .next .given .1)), s .pre .1)
 
 holds-enum-known-kind-3 : (t : ℕ) → holds-lts.Need-enum-known-kind-3 (holds-given t) (holds-at t) holds.Post
 holds-enum-known-kind-3 t c = search needs
@@ -164,40 +172,33 @@ holds-enum-known-kind-3 t c = search needs
 holds-rows-of-requires : (t : ℕ) → holds-lts.Need-rows-of-requires (holds-given t) (holds-at t) holds.Post
 holds-rows-of-requires t c κs = let s = start t (c .before .before .before) in let w = s .pre .1 .0 in (w .well, w .keys-long, w .kept, least-read _ _ (reads-as t (c .before .before .before) ∙ ap some (c .before .kind3 .given .1)) .0)
 
-holds-cast-result : (t : ℕ) → holds-lts.Need-cast-result (holds-given t) (holds-at t) holds.Post
-holds-cast-result t c = search needs
-
 holds-add-neighbour-count : (t : ℕ) → holds-lts.Need-add-neighbour-count (holds-given t) (holds-at t) holds.Post
 holds-add-neighbour-count t c = omega (arith, inside t (c .before .before .before .before))
 
 holds-neighbour-count-requires : (t : ℕ) → holds-lts.Need-neighbour-count-requires (holds-given t) (holds-at t) holds.Post
 holds-neighbour-count-requires t c κs = let s = start t (c .before .before .before .before) in let own = c .rows-of .ensures in let w = s .pre .1 .0 in (omega (arith, inside t (c .before .before .before .before), s .pre .0, own .rises, own .ends, sized-file _ (w .well) .few-rows), (w, own .rises, own .ends))
 
-holds-returns-2 : (t : ℕ) → holds-lts.Need-returns-2 (holds-given t) (holds-at t) holds.Post
-holds-returns-2 t c = says-true _ _ _ _ (reads-as t (c .before .before) ∙ ap some (c .enum-told2 .given .1))
-
-holds-returns-3 : (t : ℕ) → holds-lts.Need-returns-3 (holds-given t) (holds-at t) holds.Post
-holds-returns-3 t c =
-    let e = reads-as t (c .before .before .before .before .before) ∙ ap some (c .before .before .before .kind2 .given .1) in
-    says-literal _ _ _ _ _ _ _ (e ∙ ap (λ (z : ℤ). some (Literal z)) (sym (literal-back _ _ e))) (c .before .marks .ensures) (c .shows .ensures)
+holds-reached-requires : (t : ℕ) → holds-lts.Need-reached-requires (holds-given t) (holds-at t) holds.Post
+holds-reached-requires t c κs = search needs
 
 holds-returns-4 : (t : ℕ) → holds-lts.Need-returns-4 (holds-given t) (holds-at t) holds.Post
-holds-returns-4 t c = says-not _ _ _ _ _ (reads-as t (c .before .before .before) ∙ ap some (c .before .enum-told3 .given .1)) (c .holds .ensures)
+holds-returns-4 t c = holds-true _ _ _ _ (reads-as t (c .before .before) ∙ ap some (c .enum-told2 .given .1))
 
 holds-returns-5 : (t : ℕ) → holds-lts.Need-returns-5 (holds-given t) (holds-at t) holds.Post
-holds-returns-5 t c = says-and _ _ _ _ _ (c .before .after .ensures) _ _ (c .before .before .if1 .taken) (reads-as t (c .before .before .before .before .before .before) ∙ ap some (c .before .before .before .before .enum-told4 .given .1)) (c .before .before .before .holds2 .ensures) (c .holds3 .ensures)
+holds-returns-5 t c =
+    let e = reads-as t (c .before .before .before .before .before) ∙ ap some (c .before .before .before .kind2 .given .1) in
+    holds-literal _ _ _ _ _ _ _ (e ∙ ap (λ (z : ℤ). some (Literal z)) (sym (literal-back _ _ e))) (c .before .marks .ensures) (c .shows .ensures)
 
 holds-returns-6 : (t : ℕ) → holds-lts.Need-returns-6 (holds-given t) (holds-at t) holds.Post
-holds-returns-6 t c = says-and-no _ _ _ _ _ (c .if1 .left) (reads-as t (c .before .before .before .before) ∙ ap some (c .before .before .enum-told4 .given .1)) (c .before .holds2 .ensures)
+holds-returns-6 t c = rw (c .turned .ensures) (holds-not _ _ _ _ _ (reads-as t (c .before .before .before .before) ∙ ap some (c .before .before .enum-told3 .given .1)) (c .before .holds .ensures))
 
 holds-returns-7 : (t : ℕ) → holds-lts.Need-returns-7 (holds-given t) (holds-at t) holds.Post
-holds-returns-7 t c = says-or-yes _ _ _ _ _ (c .if2 .taken) (reads-as t (c .before .before .before .before) ∙ ap some (c .before .before .enum-told5 .given .1)) (c .before .holds4 .ensures)
+holds-returns-7 t c =
+    holds-second _ _ _ _ _ (two-of _ (c .before .before .before .before .before .before .before .before .match2 .keys4)) (reads-as t (c .before .before .before .before .before .before .before .before .before)) _ (c .before .before .before .before .before .before .before .holds2 .ensures) _ (c .before .before .before .before .span .ensures) _ _ _ _ (sym (c .before .before .before .before .before .before .decides .ensures) ∙ c .before .before .before .before .before .if1 .left) (c .before .before .next .given .1)
+    (c .holds3 .ensures)
 
 holds-returns-8 : (t : ℕ) → holds-lts.Need-returns-8 (holds-given t) (holds-at t) holds.Post
-holds-returns-8 t c = says-or _ _ _ _ _ (c .before .after2 .ensures) _ _ (c .before .before .if2 .left) (reads-as t (c .before .before .before .before .before .before) ∙ ap some (c .before .before .before .before .enum-told5 .given .1)) (c .before .before .before .holds4 .ensures) (c .holds5 .ensures)
-
-holds-returns-9 : (t : ℕ) → holds-lts.Need-returns-9 (holds-given t) (holds-at t) holds.Post
-holds-returns-9 t c = says-least _ _ _ _ _ _ _ _ _ _ (reads-as t (c .before .before .before .before .before) ∙ ap some (c .before .before .before .kind3 .given .1)) (c .before .rows-of .ensures) (c .neighbour-count .ensures .1)
+holds-returns-8 t c = rw (c .reached .ensures) (holds-least _ _ _ _ _ _ _ _ _ _ (reads-as t (c .before .before .before .before .before .before) ∙ ap some (c .before .before .before .before .kind3 .given .1)) (c .before .before .rows-of .ensures) (c .before .neighbour-count .ensures .1))
 
 -- ---- neighbour_count
 
@@ -215,22 +216,26 @@ row-there t c =
 
 -- the class at which the operand is asked
 asked : (t : ℕ) (c : count-lts.After-lowest-of (count-given t) (count-at t) count.Post) →
-    let s = count-start t (c .before .before .before) .args in
+    let s = count-start t (c .before .before .before .before .before .before) .args in
     (c .lowest-of .result .0 ≡ lowestClass (summaryIn (s .s .now)) ((rowOf (summaryIn (s .s .now)) (s .row)) .group)) × (c .lowest-of .result .0 < length (summaryIn (s .s .now) .classes))
 asked t c =
-    let l = c .before .before .before in
+    let l = c .before .before .before .before .before .before in
     lowest-asked _ _ _ (count-start t l .pre .1 .0) _ (row-there t l .row-is) _ _ (c .before .row-group .ensures) (c .lowest-of .ensures)
 
--- the rows so far, and this one
+-- the sum of the rows behind this one
+behind : (t : ℕ) (c : count-lts.After-known-told (count-given t) (count-at t) count.Post) →
+    let s = count-start t (c .before .before .before .before) .args in
+    c .before .rest .given .0 .0 ≤ 8 * (s .end - (s .row + 1))
+behind t c = omega (arith, c .before .before .before .neighbour-count .ensures .0, ap sumOf (c .before .rest .given .1))
+
+-- and with this one
 most : (t : ℕ) (c : count-lts.After-row-count (count-given t) (count-at t) count.Post) →
-    let l = c .before .before .before .before .before in
-    let s = count-start t (l .before) .args in
-    (l .neighbour-count .result + c .row-count .result ≤ 8 * (s .end - s .row)) × (l .neighbour-count .result + c .row-count .result ≤ 32768)
+    let s = count-start t (c .before .before .before .before .before .before .before .before .before .before .before .before) .args in
+    (c .before .before .before .before .before .before .before .before .before .rest .given .0 .0 + c .row-count .result ≤ 8 * (s .end - s .row)) × (c .before .before .before .before .before .before .before .before .before .rest .given .0 .0 + c .row-count .result ≤ 32768)
 most t c =
-    let n = c .before .before .before .before .before in
-    let l = n .before in
+    let l = c .before .before .before .before .before .before .before .before .before .before .before .before in
     let s = count-start t l in
-    sum-most _ _ _ (s .pre .1 .0) _ (row-there t l .row-is) _ _ _ (l .if1 .left) (s .pre .1 .2) (n .neighbour-count .ensures .0) (c .row-count .ensures)
+    sum-most _ _ _ (s .pre .1 .0) _ (row-there t l .row-is) _ _ _ (l .if1 .left) (s .pre .1 .2) (behind t (c .before .before .before .before .before .before .before .before)) (c .row-count .ensures)
 
 count-returns : (t : ℕ) → count-lts.Need-returns (count-given t) (count-at t) count.Post
 count-returns t c = (omega arith, counts-none _ _ _ _ _ (c .if1 .taken))
@@ -241,38 +246,54 @@ count-add-neighbour-count t c = search needs
 count-neighbour-count-requires : (t : ℕ) → count-lts.Need-neighbour-count-requires (count-given t) (count-at t) count.Post
 count-neighbour-count-requires t c κs = let s = c .before .before .before .before .before in (omega (arith, s .pre .0, c .if1 .left), (s .pre .1 .0, omega (arith, c .if1 .left), s .pre .1 .2))
 
-count-row-group-requires : (t : ℕ) → count-lts.Need-row-group-requires (count-given t) (count-at t) count.Post
-count-row-group-requires t c κs = row-there t (c .before)
+count-enum-known-rest : (t : ℕ) → count-lts.Need-enum-known-rest (count-given t) (count-at t) count.Post
+count-enum-known-rest t c = search needs
 
-count-lowest-of-requires : (t : ℕ) → count-lts.Need-lowest-of-requires (count-given t) (count-at t) count.Post
-count-lowest-of-requires t c κs = let s = c .before .before .before .before .before .before .before in group-below _ _ _ (s .pre .1 .0) _ (row-there t (c .before .before) .row-is) _ (c .row-group .ensures)
-
-count-holds-requires : (t : ℕ) → count-lts.Need-holds-requires (count-given t) (count-at t) count.Post
-count-holds-requires t c κs = let s = c .before .before .before .before .before .before .before .before in (omega (arith, s .pre .0), (s .pre .1 .0, asked t c .1))
-
-count-row-count-requires : (t : ℕ) → count-lts.Need-row-count-requires (count-given t) (count-at t) count.Post
-count-row-count-requires t c κs = row-there t (c .before .before .before .before .before)
-
-count-cast-result : (t : ℕ) → count-lts.Need-cast-result (count-given t) (count-at t) count.Post
-count-cast-result t c = search needs
-
-count-add-result : (t : ℕ) → count-lts.Need-add-result (count-given t) (count-at t) count.Post
-count-add-result t c = omega (arith, most t c .1)
+count-enum-told : (t : ℕ) → count-lts.Need-enum-told (count-given t) (count-at t) count.Post
+count-enum-told t c = search needs
 
 count-returns-2 : (t : ℕ) → count-lts.Need-returns-2 (count-given t) (count-at t) count.Post
-count-returns-2 t c =
-    let r = c .before .before .before .before .before .neighbour-count .ensures in
-    (most t c .0, counts-in _ _ _ _ _ _ _ (c .before .before .before .before .before .before .if1 .left) (asked t (c .before .before .before) .0) (r .1) _ _ (c .before .if2 .taken) (c .row-count .ensures) (c .before .before .holds .ensures))
+count-returns-2 t c = (omega arith, counts-unsummed _ _ _ _ _ _ (c .before .before .neighbour-count .ensures .1) _ _ (c .enum-told .given .1))
+
+count-row-group-requires : (t : ℕ) → count-lts.Need-row-group-requires (count-given t) (count-at t) count.Post
+count-row-group-requires t c κs = row-there t (c .before .before .before .before)
+
+count-lowest-of-requires : (t : ℕ) → count-lts.Need-lowest-of-requires (count-given t) (count-at t) count.Post
+count-lowest-of-requires t c κs = let s = c .before .before .before .before .before .before .before .before .before .before in group-below _ _ _ (s .pre .1 .0) _ (row-there t (c .before .before .before .before .before) .row-is) _ (c .row-group .ensures)
+
+count-holds-requires : (t : ℕ) → count-lts.Need-holds-requires (count-given t) (count-at t) count.Post
+count-holds-requires t c κs = let s = c .before .before .before .before .before .before .before .before .before .before .before in (omega (arith, s .pre .0), (s .pre .1 .0, asked t c .1))
+
+count-enum-known-yes : (t : ℕ) → count-lts.Need-enum-known-yes (count-given t) (count-at t) count.Post
+count-enum-known-yes t c = search needs
+
+count-enum-told-2 : (t : ℕ) → count-lts.Need-enum-told-2 (count-given t) (count-at t) count.Post
+count-enum-told-2 t c = search needs
 
 count-returns-3 : (t : ℕ) → count-lts.Need-returns-3 (count-given t) (count-at t) count.Post
-count-returns-3 t c =
-    let r = c .before .before .before .before .neighbour-count .ensures in
-    (omega (arith, r .0, c .before .before .before .before .before .if1 .left), counts-out _ _ _ _ _ _ _ (c .before .before .before .before .before .if1 .left) (asked t (c .before .before) .0) (r .1) _ (c .if2 .left) (c .before .holds .ensures))
+count-returns-3 t c = (omega arith, counts-unasked _ _ _ _ _ _ (c .before .before .before .before .before .before .before .before .neighbour-count .ensures .1) _ (asked t (c .before .before .before) .0) _ (c .before .before .holds .ensures) _ _ (c .enum-told2 .given .1))
+
+count-row-count-requires : (t : ℕ) → count-lts.Need-row-count-requires (count-given t) (count-at t) count.Post
+count-row-count-requires t c κs = row-there t (c .before .before .before .before .before .before .before .before .before .before .before)
+
+count-cast-t20 : (t : ℕ) → count-lts.Need-cast-t20 (count-given t) (count-at t) count.Post
+count-cast-t20 t c = search needs
+
+count-add-t21 : (t : ℕ) → count-lts.Need-add-t21 (count-given t) (count-at t) count.Post
+count-add-t21 t c = omega (arith, most t c .1)
+
+count-returns-4 : (t : ℕ) → count-lts.Need-returns-4 (count-given t) (count-at t) count.Post
+count-returns-4 t c =
+    (most t c .0, counts-in _ _ _ _ _ _ (c .before .before .before .before .before .before .before .before .before .before .before .neighbour-count .ensures .1) _ (asked t (c .before .before .before .before .before .before) .0) _ (c .before .before .before .before .before .holds .ensures) (c .before .before .before .before .before .before .before .before .before .before .before .before .if1 .left) _ (c .before .before .before .before .before .before .before .before .before .rest .given .1) _ _ (c .before .if2 .taken) (c .before .before .before .yes .given .1) (c .row-count .ensures))
+
+count-returns-5 : (t : ℕ) → count-lts.Need-returns-5 (count-given t) (count-at t) count.Post
+count-returns-5 t c =
+    (omega (arith, behind t (c .before .before .before .before .before .before .before), c .before .before .before .before .before .before .before .before .before .before .before .if1 .left), counts-out _ _ _ _ _ _ (c .before .before .before .before .before .before .before .before .before .before .neighbour-count .ensures .1) _ (asked t (c .before .before .before .before .before) .0) _ (c .before .before .before .before .holds .ensures) (c .before .before .before .before .before .before .before .before .before .before .before .if1 .left) _ (c .before .before .before .before .before .before .before .before .rest .given .1) _ (c .if2 .left) (c .before .before .yes .given .1))
 
 pub +holds+neighbour-count-spec : {M : Type 1} → statement M
-+holds+neighbour-count-spec =
-    close μ-holds μ-count
-    (λ t. holds-lts.spec (holds-given t) (holds-at t) holds.Post
++holds+neighbour-count-spec = close μ-holds μ-count (λ t. holds-lts.spec (holds-given t)
+    (holds-at t)
+    holds.Post
     (holds-entry-requires t)
     (holds-enum-known-kind t)
     (holds-enum-told t)
@@ -284,40 +305,44 @@ pub +holds+neighbour-count-spec : {M : Type 1} → statement M
     (holds-enum-told-3 t)
     (holds-add-holds t)
     (holds-holds-requires t)
-    (holds-enum-told-4 t)
+    (holds-turned-requires t)
     (holds-add-holds-2 t)
     (holds-holds-requires-2 t)
-    (holds-add-after t)
-    (holds-after-requires t)
+    (holds-decides-requires t)
+    (holds-returns-2 t)
+    (holds-add-span t)
+    (holds-span-requires t)
+    (holds-enum-known-next t)
+    (holds-enum-told-4 t)
+    (holds-returns-3 t)
     (holds-holds-requires-3 t)
-    (holds-enum-told-5 t)
-    (holds-add-holds-3 t)
-    (holds-holds-requires-4 t)
-    (holds-add-after-2 t)
-    (holds-after-requires-2 t)
-    (holds-holds-requires-5 t)
     (holds-enum-known-kind-3 t)
     (holds-rows-of-requires t)
-    (holds-cast-result t)
     (holds-add-neighbour-count t)
     (holds-neighbour-count-requires t)
-    (holds-returns-2 t)
-    (holds-returns-3 t)
+    (holds-reached-requires t)
     (holds-returns-4 t)
     (holds-returns-5 t)
     (holds-returns-6 t)
     (holds-returns-7 t)
-    (holds-returns-8 t)
-    (holds-returns-9 t))
-    λ t. count-lts.spec (count-given t) (count-at t) count.Post
+    (holds-returns-8 t))
+    λ t. count-lts.spec (count-given t)
+    (count-at t)
+    count.Post
     (count-returns t)
     (count-add-neighbour-count t)
     (count-neighbour-count-requires t)
+    (count-enum-known-rest t)
+    (count-enum-told t)
+    (count-returns-2 t)
     (count-row-group-requires t)
     (count-lowest-of-requires t)
     (count-holds-requires t)
-    (count-row-count-requires t)
-    (count-cast-result t)
-    (count-add-result t)
-    (count-returns-2 t)
+    (count-enum-known-yes t)
+    (count-enum-told-2 t)
     (count-returns-3 t)
+    (count-row-count-requires t)
+    (count-cast-t20 t)
+    (count-add-t21 t)
+    (count-returns-4 t)
+    (count-returns-5 t)

@@ -1,64 +1,36 @@
--- The first k classes are answered.
-use native.Mathlib.Omega.{arith}
-use mathlib.Core.Path.{_≡_, refl}
-use Prim.Native.Nat.{_-_, _≤_}
-use lib.ListN.{length, length-set}
-use Rattle.files.specs.SummaryFile.{summaryIn}
-use Rattle.wellformed.proofs.Laws.{well-file, sized-file}
-use Rattle.consult.proofs.Laws.{Answered, one-answered}
+-- The lowest classes are put, and then every class is asked.
 use borrow.Author.Needs.{needs}
 use Rattle.consult.proofs.put_answers.Statement.{statement}
 use Rattle.consult.proofs.put_answers.Tie as tie
 
-abbrev Inv-loop : tie.InvT-loop
-Inv-loop q s keys lowest answers₀ c k₀ answers k = (k ≤ c) × Answered q (summaryIn s) answers k × (length answers ≡ length answers₀)
+slice-aggregate-put-lowest : tie.Need-slice-aggregate-put-lowest
+slice-aggregate-put-lowest c = search needs
 
-abbrev μ-loop : tie.MeasureT-loop
-μ-loop q s keys lowest answers₀ c k₀ answers k = c - k
+put-lowest-requires : tie.Need-put-lowest-requires
+put-lowest-requires c κs = (c .before .before .before .before .before .pre .0, search needs)
 
-classes-requires : tie.Need-classes-requires Inv-loop μ-loop
-classes-requires c κs = well-file _ (c .before .before .before .before .before .pre .0 .well) .0
+slice-aggregate-put-each : tie.Need-slice-aggregate-put-each
+slice-aggregate-put-each c = search needs
 
-loop-holds : tie.Need-loop-holds Inv-loop μ-loop
-loop-holds c = (omega arith, (λ t m p i h. absurd (omega arith)), refl)
+put-each-requires : tie.Need-put-each-requires
+put-each-requires c κs =
+    let s = c .before .before .before .before .before .before .before .before .before .pre in
+    let low = c .before .before .before .put-lowest .ensures in
+    (record { well = s .0; keys-long = s .1; kept = s .2; lowest-long = low .0; lowest-are = low .1 }, s .3)
 
-cast-t9 : tie.Need-cast-t9 Inv-loop μ-loop
-cast-t9 c = omega (arith, c .loop-test .taken, c .before .before .classes .ensures)
+same-length : tie.Need-same-length
+same-length c = search needs
 
-holds-requires : tie.Need-holds-requires Inv-loop μ-loop
-holds-requires c κs = (c .before .before .before .before .before .before .before .before .pre .0, omega (arith, c .loop-test .taken, c .before .before .classes .ensures))
-
-slice-write-answers : tie.Need-slice-write-answers Inv-loop μ-loop
-slice-write-answers c = let s = c .before .before .before .before .before .before .before .before .before .pre in omega (arith, c .before .loop-test .taken, c .before .before .before .classes .ensures, sized-file _ (s .0 .well) .few-classes, s .1, c .before .before .loop .inv .2)
-
-add-k : tie.Need-add-k Inv-loop μ-loop
-add-k c = omega arith
-
-loop-less : tie.Need-loop-less Inv-loop μ-loop
-loop-less c = omega arith
-
-loop-again : tie.Need-loop-again Inv-loop μ-loop
-loop-again c = let s = c .before .before .before .before .before .before .before .before .before .pre in let l = c .before .before .loop .inv in (omega arith, one-answered _ _ (c .before .before .loop .answers) (c .before .before .loop .k) _ (omega (arith, c .before .loop-test .taken, c .before .before .before .classes .ensures, sized-file _ (s .0 .well) .few-classes, s .1, l .2)) (c .holds .ensures) (l .1), simp length-set (l .2))
-
-same-length : tie.Need-same-length Inv-loop μ-loop
-same-length c = c .before .loop .inv .2
-
-returns : tie.Need-returns Inv-loop μ-loop
-returns c = λ t m p i h. c .before .loop .inv .1 t m p i (omega (arith, c .loop-test .left, c .before .before .classes .ensures))
+returns : tie.Need-returns
+returns c = c .before .before .put-each .ensures
 
 pub put-answers-spec : {M : Type 1} → statement M
 put-answers-spec =
     tie.close
     (tie.spec
-    Inv-loop
-    μ-loop
-    classes-requires
-    loop-holds
-    cast-t9
-    holds-requires
-    slice-write-answers
-    add-k
-    loop-less
-    loop-again
+    slice-aggregate-put-lowest
+    put-lowest-requires
+    slice-aggregate-put-each
+    put-each-requires
     same-length
     returns)

@@ -1,13 +1,15 @@
--- 7; then the items, and 9.
+-- 7; then the items, and 9; 5 cannot come any more.
 use native.Mathlib.Omega.{arith}
-use mathlib.Core.Path.{sym, ap, _∙_}
+use mathlib.Core.Path.{_≡_, sym, ap, _∙_}
 use mathlib.Core.List.{List}
 use Prim.Native.Nat.{ℕ}
 use lib.ListN.{length}
 use Rattle.files.specs.Bytes.{put2, pack}
 use Rattle.files.specs.Answers.{into}
+use Rattle.question.proofs.Laws.{parsed-question}
+use Rattle.inquiry.proofs.Laws.{not-refused}
 use Rattle.hestovane.proofs.Laws.{gives-this}
-use Rattle.hestovane.proofs.OnSummary.{beyond-by, list-seven, list-into, gives-refused}
+use Rattle.hestovane.proofs.OnSummary.{beyond-by, list-seven, list-into, gives-refused, list-named, few-named}
 use borrow.Author.Needs.{needs}
 use Rattle.hestovane.proofs.list_read.Statement.{statement}
 use Rattle.hestovane.proofs.list_read.Tie as tie
@@ -20,28 +22,50 @@ returns c =
     let s = c .before .before .before .before .before .before .pre in
     gives-this _ _ _ _ _ (list-seven _ _ _ (s .well) (s .tree) (s .reads) (sym (beyond-by _ (s .tree) _ _ (sym (s .depth-is)) (sym (s .threshold-is))) ∙ sym (c .before .beyond .ensures) ∙ c .if1 .taken)) (gives-refused _ _)
 
-slice-aggregate-put-named : tie.Need-slice-aggregate-put-named
-slice-aggregate-put-named c = search needs
+slice-aggregate-put-answers : tie.Need-slice-aggregate-put-answers
+slice-aggregate-put-answers c = search needs
 
-put-named-requires : tie.Need-put-named-requires
-put-named-requires c κs = let s = c .before .before .before .before .before .before .before .pre in (s .well, s .keys-long, s .kept, search needs)
+put-answers-requires : tie.Need-put-answers-requires
+put-answers-requires c κs = let s = c .before .before .before .before .before .before .before .pre in (s .well, s .keys-long, s .kept, search needs)
+
+enum-told : tie.Need-enum-told
+enum-told c = search needs
+
+enum-told-2 : tie.Need-enum-told-2
+enum-told-2 c = search needs
+
+returns-2 : tie.Need-returns-2
+returns-2 c =
+    let s = c .before .before .before .before .before .before .before .before .before .before .before .pre in
+    absurd (not-refused _ _ (c .before .before .before .put-answers .ensures (s .tree) _ (parsed-question _ (s .tree) (s .reads)) .0) (c .enum-told2 .given .1))
+
+slice-aggregate-put-items : tie.Need-slice-aggregate-put-items
+slice-aggregate-put-items c = search needs
+
+slice-aggregate-put-items-2 : tie.Need-slice-aggregate-put-items-2
+slice-aggregate-put-items-2 c = search needs
+
+put-items-requires : tie.Need-put-items-requires
+put-items-requires c κs = (c .before .before .before .before .before .before .before .before .before .before .before .before .before .pre .well, search needs, search needs)
 
 slice-aggregate-put-list : tie.Need-slice-aggregate-put-list
 slice-aggregate-put-list c = search needs
 
 put-list-requires : tie.Need-put-list-requires
-put-list-requires c κs = let s = c .before .before .before .before .before .before .before .before .before .before .before .pre in let n = c .before .before .before .put-named .ensures (s .tree) (s .reads) in (n .few, omega (arith, n .few))
+put-list-requires c κs =
+    let few = few-named _ _ _ (c .before .before .before .before .before .before .before .before .before .before .before .before .before .before .before .before .before .pre .well) (c .before .before .before .put-items .ensures .0) in
+    (few, omega (arith, few))
 
 same-length : tie.Need-same-length
 same-length c = search needs
 
-returns-2 : tie.Need-returns-2
-returns-2 c =
-    let s = c .before .before .before .before .before .before .before .before .before .before .before .before .before .before .pre in
-    let n = c .before .before .before .before .before .before .put-named .ensures (s .tree) (s .reads) in
+returns-3 : tie.Need-returns-3
+returns-3 c =
+    let s = c .before .before .before .before .before .before .before .before .before .before .before .before .before .before .before .before .before .before .before .before .pre in
+    let named = list-named _ (s .tree) (c .before .before .before .before .before .before .before .before .before .before .before .before .put-answers .last .1 .1 .1 .0) (s .well) (c .before .before .before .before .before .before .before .before .before .before .before .before .put-answers .ensures (s .tree) _ (parsed-question _ (s .tree) (s .reads)) .1) in
     gives-this _ _ _ _ _
-    (ap (λ (l : List ℕ). into (length (c .before .before .before .before .before .before .before .before .before .before .before .before .before .before .args .out .now)) (pack put2 l)) (n .list-is)
-    ∙ list-into _ _ _ (s .well) (s .tree) (s .reads) (sym (beyond-by _ (s .tree) _ _ (sym (s .depth-is)) (sym (s .threshold-is))) ∙ sym (c .before .before .before .before .before .before .before .before .before .beyond .ensures) ∙ c .before .before .before .before .before .before .before .before .if1 .left))
+    (ap (λ (l : List ℕ). into (length (c .before .before .before .before .before .before .before .before .before .before .before .before .before .before .before .before .before .before .before .before .args .out .now)) (pack put2 l)) (c .before .before .before .before .before .before .put-items .ensures .1 ∙ named)
+    ∙ list-into _ _ _ (s .well) (s .tree) (s .reads) (sym (beyond-by _ (s .tree) _ _ (sym (s .depth-is)) (sym (s .threshold-is))) ∙ sym (c .before .before .before .before .before .before .before .before .before .before .before .before .before .before .before .beyond .ensures) ∙ c .before .before .before .before .before .before .before .before .before .before .before .before .before .before .if1 .left))
     (c .before .before .put-list .ensures)
 
 pub list-read-spec : {M : Type 1} → statement M
@@ -50,9 +74,15 @@ list-read-spec =
     (tie.spec
     beyond-requires
     returns
-    slice-aggregate-put-named
-    put-named-requires
+    slice-aggregate-put-answers
+    put-answers-requires
+    enum-told
+    enum-told-2
+    returns-2
+    slice-aggregate-put-items
+    slice-aggregate-put-items-2
+    put-items-requires
     slice-aggregate-put-list
     put-list-requires
     same-length
-    returns-2)
+    returns-3)

@@ -4,7 +4,7 @@ use Prim.Native.Nat.{ℕ, _+_, _*_}
 use mathlib.Core.Path.{_≡_, ap, _∙_}
 use mathlib.Core.Bool.{Bool, false}
 use native.Mathlib.Omega.{arith}
-use Rattle.inquiry.specs.declared.Asked.the-variants.{Said}
+use Rattle.question.specs.declared.Asked.the-variants.{Said}
 use Rattle.inquiry.proofs.Laws.{known-all}
 use borrow.Author.Needs.{needs}
 use Rattle.inquiry.proofs.ask.Statement.{statement}
