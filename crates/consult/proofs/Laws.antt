@@ -24,7 +24,7 @@ use Rattle.meaning.specs.Summary.{Row, Summary, noRow, classOf, rowOf, lowestCl
 use Rattle.meaning.specs.WellFormed.{within, rowIn, numbers, wellFormed}
 use Rattle.files.specs.SummaryFile.{summaryIn}
 use Rattle.files.specs.declared.Refusal.{Refusal}
-use Rattle.theory.proofs.CountLaws.{by-eq, and-inv, each-every, every-at, sum-same, sum-front}
+use Rattle.theory.proofs.CountLaws.{by-eq, and-inv, each-every, every-at}
 use Rattle.theory.proofs.ShapeLaws.{well-parts, number-parts}
 use Rattle.question.specs.declared.Asked.{Asked}
 use Rattle.question.specs.declared.Asked.the-variants.{Said, Refused as NotSaid}
@@ -39,8 +39,8 @@ use Rattle.question.proofs.Steps.{Two}
 use Rattle.wellformed.proofs.Laws.{well-file, sized-file, groups-file}
 use Rattle.wellformed.proofs.Match.{row-at}
 use Rattle.consult.specs.declared.Counted.{Counted}
-use Rattle.consult.specs.declared.Counted.the-variants.{Sum, Refused as Uncounted}
-use Rattle.consult.specs.Consulted.{Consulted, Own, adds, Holds, Counts, Answers, sumOf, turned, any, decides, reached}
+use Rattle.consult.specs.declared.Counted.the-variants.{Sum}
+use Rattle.consult.specs.Consulted.{Consulted, Own, adds, Holds, Counts, Answers, turned, any, decides, reached}
 use Rattle.consult.proofs.Lowest.{lowest-below}
 use Rattle.consult.proofs.Window.{counted-own}
 
@@ -89,9 +89,6 @@ not-refused a b r e f = let z : _≡_ {A = ℕ} 0 1 = cc in omega arith
 
 said-one : (a : Asked) (b d : Bool) → a ≡ Said b → a ≡ Said d → b ≡ d
 said-one a b d e f = cc
-
-uncounted : (a : Counted) (n : ℕ) (r : Refusal) → a ≡ Sum n → a ≡ Uncounted r → ⊥
-uncounted a n r e f = let z : _≡_ {A = ℕ} 0 1 = cc in omega arith
 
 -- the entry after a tree is further on
 pub spans-on : (q : List ℕ) (i : ℕ) (s : Spanned) → Spans q i s → (d m j : ℕ) → s ≡ Tree d m j → i < j
@@ -148,41 +145,30 @@ module _ (q : List ℕ) (i : ℕ) (S : Summary) (c : ℕ) where
 
 -- ---- the count, row by row
 
-module _ (q : List ℕ) (i : ℕ) (S : Summary) (row end : ℕ) where
-  pub counts-none : end ≤ row → Counts q i S row end (Sum 0)
+-- n is the sum of the rows from low up to row, for the tree at entry i
+abbrev pub Summed : List ℕ → ℕ → Summary → ℕ → ℕ → ℕ → Type 0
+Summed q i S low row n = (t : Question) (k : ℕ) → Parsed q i t k → n ≡ sum (λ j. adds S t (low + j)) (row - low)
+
+module _ (q : List ℕ) (i : ℕ) (S : Summary) (low : ℕ) where
+  pub summed-none : Summed q i S low low 0
   unfolding sum
-  counts-none h t k p = let e : end - row ≡ 0 = omega arith in rw e
+  summed-none t k p = let e : low - low ≡ 0 = omega arith in rw e
 
-  -- one row, and those after it
-  step : (t : Question) (r : ℕ) → row < end → r ≡ sum (λ j. adds S t (row + 1 + j)) (end - (row + 1)) → adds S t row + r ≡ sum (λ j. adds S t (row + j)) (end - row)
-  step t r h e =
-      let z : end - row ≡ suc (end - (row + 1)) = omega arith in
-      let a : row + 0 ≡ row = omega arith in
-      let same = sum-same (λ j. adds S t (row + suc j)) (λ j. adds S t (row + 1 + j)) (end - (row + 1)) (λ j u. let b : row + suc j ≡ row + 1 + j = omega arith in ap (adds S t) b) in
-      ap₂ _+_ (ap (adds S t) (sym a)) (e ∙ sym same) ∙ sym (ap (sum (λ j. adds S t (row + j))) z ∙ sum-front (λ j. adds S t (row + j)) (end - (row + 1)))
+  pub summed-all : (high row n : ℕ) → row ≡ high → Summed q i S low row n → Counts q i S low high (Sum n)
+  summed-all high row n e f t k p = ap (λ (n : ℕ). Sum n) (f t k p ∙ ap (λ (h : ℕ). sum (λ j. adds S t (low + j)) (h - low)) e)
 
-  module _ (a : Counted) (rest : Counts q i S (row + 1) end a) where
-    pub counts-unsummed : (r : Refusal) (b : Counted) → a ≡ Uncounted r → Counts q i S row end b
-    counts-unsummed r b e t k p = absurd (uncounted a _ r (rest t k p) e)
+  module _ (row x : ℕ) (asked : x ≡ lowestClass S ((rowOf S row) .group)) (y : Asked) (says : Holds q i S x y) where
+    pub counts-unasked : (high : ℕ) (r : Refusal) (b : Counted) → y ≡ NotSaid r → Counts q i S low high b
+    counts-unasked high r b e t k p = absurd (not-refused y _ r (says t k p) e)
 
-    module _ (x : ℕ) (asked : x ≡ lowestClass S ((rowOf S row) .group)) (y : Asked) (says : Holds q i S x y) where
-      pub counts-unasked : (r : Refusal) (b : Counted) → y ≡ NotSaid r → Counts q i S row end b
-      counts-unasked r b e t k p = absurd (not-refused y _ r (says t k p) e)
-
-      module _ (h : row < end) (r : ℕ) (e : a ≡ Sum r) where
-        here : (b : Bool) → y ≡ Said b → (t : Question) (k : ℕ) → Parsed q i t k → adds S t row ≡ cond b ((rowOf S row) .count) 0
-        here b f t k p =
-            let same : holdsAt S t x ≡ b = said-one y _ b (says t k p) f in
-            ap (λ (y : Bool). cond y ((rowOf S row) .count) 0) (ap (holdsAt S t) (sym asked) ∙ same)
-
-        behind : (t : Question) (k : ℕ) → Parsed q i t k → adds S t row + r ≡ sum (λ j. adds S t (row + j)) (end - row)
-        behind t k p = step t r h (ap sumOf (sym e ∙ rest t k p))
-
-        pub counts-out : (b : Bool) → b ≡ false → y ≡ Said b → Counts q i S row end (Sum r)
-        counts-out b f g t k p = ap (λ (n : ℕ). Sum n) (omega (arith, behind t k p, here false (g ∙ ap (λ (b : Bool). Said b) f) t k p))
-
-        pub counts-in : (b : Bool) (m : ℕ) → b ≡ true → y ≡ Said b → m ≡ (rowOf S row) .count → Counts q i S row end (Sum (r + m))
-        counts-in b m f g u t k p = ap (λ (n : ℕ). Sum n) (omega (arith, behind t k p, here true (g ∙ ap (λ (b : Bool). Said b) f) t k p, u))
+    pub one-summed : (n m : ℕ) (b : Bool) → low ≤ row → y ≡ Said b → m ≡ (rowOf S row) .count → Summed q i S low row n → Summed q i S low (row + 1) (n + cond b m 0)
+    unfolding sum
+    one-summed n m b h e f g t k p =
+        let next : row + 1 - low ≡ suc (row - low) = omega arith in
+        let here : low + (row - low) ≡ row = omega arith in
+        let same : b ≡ holdsAt S t (lowestClass S ((rowOf S row) .group)) = said-one y _ _ e (says t k p) ∙ ap (holdsAt S t) asked in
+        rw next
+        (ap₂ _+_ (g t k p) (ap₂ (λ (b : Bool) (m : ℕ). cond b m 0) same f ∙ sym (ap (adds S t) here)))
 
 -- ---- the file
 
@@ -209,8 +195,12 @@ module _ (s keys lowest : List ℕ) (w : Consulted s keys lowest) (j : ℕ) (h :
       let f = every-at (λ r. r .count ≤ S .nearCap + 1) noRow (S .rows) (each-every (rowIn S) (S .rows) (number-parts S numbered .1) (count-low S)) j h in
       omega (arith, f, sized-file s (w .well) .near-low)
 
-  pub sum-most : (end r m : ℕ) → j < end → end ≤ length (S .rows) → r ≤ 8 * (end - (j + 1)) → m ≡ (rowOf S j) .count → (r + m ≤ 8 * (end - j)) × (r + m ≤ 32768)
-  sum-most end r m u v f g = (omega (arith, count-most, g), omega (arith, count-most, g, sized-file s (w .well) .few-rows))
+  pub sum-most : (low high n m : ℕ) → low ≤ j → j < high → high ≤ length (S .rows) → n ≤ 8 * (j - low) → m ≡ (rowOf S j) .count → n + m ≤ 65536
+  sum-most low high n m u v h′ f g = omega (arith, count-most, g, sized-file s (w .well) .few-rows)
+
+  pub added-most : (low n m : ℕ) (b : Bool) → low ≤ j → n ≤ 8 * (j - low) → m ≡ (rowOf S j) .count → n + cond b m 0 ≤ 8 * (j + 1 - low)
+  added-most low n m true u f g = omega (arith, count-most, g)
+  added-most low n m false u f g = omega arith
 
   pub group-below : (g : ℕ) → g ≡ (rowOf S j) .group → g < length lowest
   group-below g e = omega (arith, e, row-at S numbered j h .2, groups-file s (w .well), w .lowest-long)

@@ -47,18 +47,13 @@ adds S t j = cond (holdsAt S t (lowestClass S ((rowOf S j) .group))) ((rowOf S j
 abbrev pub Holds : List ℕ → ℕ → Summary → ℕ → Asked → Type 0
 Holds q i S c r = (t : Question) (k : ℕ) → Parsed q i t k → r ≡ Said (holdsAt S t c)
 
--- r is the sum of the rows from row up to end, for the tree at entry i
+-- r is the sum of the rows from low up to high, for the tree at entry i
 abbrev pub Counts : List ℕ → ℕ → Summary → ℕ → ℕ → Counted → Type 0
-Counts q i S row end r = (t : Question) (k : ℕ) → Parsed q i t k → r ≡ Sum (sum (λ j. adds S t (row + j)) (end - row))
+Counts q i S low high r = (t : Question) (k : ℕ) → Parsed q i t k → r ≡ Sum (sum (λ j. adds S t (low + j)) (high - low))
 
 -- every class is answered
 abbrev pub Answers : List ℕ → Summary → Filled → List Bool → Type 0
 Answers q S r answers = (t : Question) (k : ℕ) → Parsed q 0 t k → (r ≡ Done) × ((c : ℕ) → c < length (S .classes) → getD answers c false ≡ holdsAt S t c)
-
--- the number that a count is
-abbrev pub sumOf : Counted → ℕ
-sumOf (Sum n) = n
-sumOf (Refused r) = 0
 
 -- "not, one operand"
 abbrev pub turned : Asked → Asked

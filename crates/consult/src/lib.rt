@@ -10,14 +10,14 @@ use question::Filled;
 use question::Reading;
 use question::Spanned;
 ghost use mathlib.Core.Path.{_≡_};
-ghost use mathlib.Core.Bool.{true};
-ghost use Prim.Native.Nat.{ℕ, _-_, _*_, _≤_, _<_};
+ghost use mathlib.Core.Bool.{true, cond};
+ghost use Prim.Native.Nat.{ℕ, _+_, _≤_, _<_};
 ghost use lib.ListN.{length, getD};
 ghost use Rattle.meaning.specs.Summary.{lowestClass};
 ghost use Rattle.meaning.specs.WellFormed as meant;
 ghost use Rattle.files.specs.SummaryFile.{summaryIn, wellFormedFile};
 ghost use Rattle.wellformed.specs.Keys.{Keyed};
-ghost use Rattle.consult.specs.Consulted.{Consulted, Own, sumOf, Holds, Counts, Answers};
+ghost use Rattle.consult.specs.Consulted.{Consulted, Own, Holds, Counts, Answers};
 ghost use Rattle.consult.specs.Consulted as consulted;
 
 // A count of neighbours.
@@ -154,35 +154,39 @@ fn holds(q: &[u8], at: usize, s: &[u8], keys: &[u64], lowest: &[u16], class: Cla
     }
 }
 
-// The sum of the rows from `row` up to `end` over the groups where the operand at entry `at` holds. No row adds nothing.
+// The sum of the rows from `low` up to `high` over the groups where the operand at entry `at` holds. No row adds nothing. A loop and not one
+// more call a row, so that a class with many rows takes no more stack than one with few.
 fn neighbour_count(
     q: &[u8],
     at: usize,
     s: &[u8],
     keys: &[u64],
     lowest: &[u16],
-    row: usize,
-    end: usize,
+    low: usize,
+    high: usize,
 ) -> Counted
-    requires { ⌜ Consulted (now s) (now keys) (now lowest) × (row ≤ end) × (end ≤ length (summaryIn (now s) .rows)) ⌝ }
-    ensures small { λ r. ⌜ sumOf r ≤ 8 * (end - row) ⌝ }
-    ensures { λ r. ⌜ Counts (now (q .entry)) at (summaryIn (now (s .entry))) row end r ⌝ }
+    requires { ⌜ Consulted (now s) (now keys) (now lowest) × (low ≤ high) × (high ≤ length (summaryIn (now s) .rows)) ⌝ }
+    ensures { λ r. ⌜ Counts (now (q .entry)) at (summaryIn (now (s .entry))) low high r ⌝ }
 {
-    if end <= row {
-        return Counted::Sum(0);
+    let mut sum = 0;
+    let mut row = low;
+    while row < high {
+        let asked = lowest_of(lowest, reader::row_group(s, row));
+        let Asked::Said(yes) = holds(q, at, s, keys, lowest, asked) else {
+            return Counted::Refused(Refusal::Question);
+        };
+        sum = added(sum, yes, reader::row_count(s, row));
+        row += 1;
     }
-    let Counted::Sum(rest) = neighbour_count(q, at, s, keys, lowest, row + 1, end) else {
-        return Counted::Refused(Refusal::Question);
-    };
-    let asked = lowest_of(lowest, reader::row_group(s, row));
-    let Asked::Said(yes) = holds(q, at, s, keys, lowest, asked) else {
-        return Counted::Refused(Refusal::Question);
-    };
-    if yes {
-        Counted::Sum(rest + reader::row_count(s, row) as u32)
-    } else {
-        Counted::Sum(rest)
-    }
+    Counted::Sum(sum)
+}
+
+// The row's count, where the operand holds.
+fn added(sum: u32, yes: bool, count: u16) -> u32
+    requires { ⌜ sum + count ≤ 65536 ⌝ }
+    ensures { λ r. ⌜ r ≡ sum + cond yes count 0 ⌝ }
+{
+    if yes { sum + count as u32 } else { sum }
 }
 
 // "not, one operand".

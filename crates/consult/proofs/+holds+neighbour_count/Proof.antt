@@ -1,5 +1,5 @@
--- `holds` and `neighbour_count` call each other: entries left, then rows left, fall. The measure is one number: there are at most 4,096
--- rows, so an entry outweighs them all. Each way out is a law of Laws.
+-- `holds` and `neighbour_count` call each other: entries left, then rows left, fall. The first is the cycle's measure, the second the loop's.
+-- Each way out is a law of Laws.
 use mathlib.Core.Path.{_≡_, sym, ap, _∙_}
 use mathlib.Core.Option.{some}
 use Prim.Native.Nat.{ℕ, _+_, _-_, _*_, _/_, _≤_, _<_}
@@ -14,8 +14,7 @@ use Rattle.question.proofs.Laws.{is-entry, within-entry, literal-back, literal-
 use Rattle.question.proofs.Steps.{Two, two-of}
 use Rattle.reader.specs.Sized.{HasRow}
 use Rattle.wellformed.proofs.Laws.{well-file, sized-file}
-use Rattle.consult.specs.Consulted.{sumOf}
-use Rattle.consult.proofs.Laws.{holds-none, holds-true, holds-literal, holds-not, holds-first, holds-second, holds-unspanned, spans-on, holds-least, counts-none, counts-unsummed, counts-unasked, counts-in, counts-out, sum-most, group-below, lowest-asked}
+use Rattle.consult.proofs.Laws.{holds-none, holds-true, holds-literal, holds-not, holds-first, holds-second, holds-unspanned, spans-on, holds-least, Summed, summed-none, summed-all, counts-unasked, one-summed, sum-most, added-most, group-below, lowest-asked}
 use borrow.Author.Needs.{needs}
 use borrow.Fn.Kinds.{In}
 use borrow.Fn.PlainCycle.{Measures, is, falls, and}
@@ -25,6 +24,7 @@ use Rattle.consult.proofs.+holds+neighbour_count.Lts-holds as holds-lts
 use Rattle.consult.proofs.neighbour_count.Reads as count
 use Rattle.consult.proofs.neighbour_count.Kinds as count-kinds
 use Rattle.consult.proofs.+holds+neighbour_count.Lts-neighbour_count as count-lts
+use Rattle.consult.proofs.added.Reads as added-reads
 use Rattle.consult.proofs.decides.Reads as decides-reads
 use Rattle.consult.proofs.lowest_of.Reads as lowest-of-reads
 use Rattle.consult.proofs.reached.Reads as reached-reads
@@ -39,12 +39,12 @@ use Rattle.reader.proofs.row_group.Reads as row-group-reads
 use Rattle.consult.proofs.+holds+neighbour_count.{statement}
 use Rattle.consult.proofs.+holds+neighbour_count.Tie.{close}
 
--- the arguments are q, at, s, keys, lowest, and then class; or row, end
+-- the arguments are q and at, and more
 abbrev μ-holds : Measures 4 holds-kinds.ps ℕ
-μ-holds κs a = (length (a .0 .now) / 4 - a .1 .0) * 65536
+μ-holds κs a = 2 * (length (a .0 .now) / 4 - a .1 .0)
 
 abbrev μ-count : Measures 4 count-kinds.ps ℕ
-μ-count κs a = (length (a .0 .now) / 4 - a .1 .0) * 65536 + (a .1 .1 .1 .1 .1 .1 .0 - a .1 .1 .1 .1 .1 .0) + 1
+μ-count κs a = 2 * (length (a .0 .now) / 4 - a .1 .0) + 1
 
 abbrev holds-at : ℕ → In 4 holds-kinds.ps
 holds-at t = and 4 holds-kinds.ps (is 4 holds-kinds.ps μ-holds t) holds.Pre
@@ -83,7 +83,7 @@ holds-given t = (
 )
 
 abbrev count-given : ℕ → count-lts.Claims
-count-given t = (count-below t, count.Post, row-group-reads.Asked, row-group-reads.Learnt, lowest-of-reads.Asked, lowest-of-reads.Learnt, holds-below t, holds.Post, row-count-reads.Asked, row-count-reads.Learnt)
+count-given t = (row-group-reads.Asked, row-group-reads.Learnt, lowest-of-reads.Asked, lowest-of-reads.Learnt, holds-below t, holds.Post, row-count-reads.Asked, row-count-reads.Learnt, added-reads.Asked, added-reads.Learnt)
 
 -- ---- holds
 
@@ -176,7 +176,7 @@ holds-add-neighbour-count : (t : ℕ) → holds-lts.Need-add-neighbour-count (ho
 holds-add-neighbour-count t c = omega (arith, inside t (c .before .before .before .before))
 
 holds-neighbour-count-requires : (t : ℕ) → holds-lts.Need-neighbour-count-requires (holds-given t) (holds-at t) holds.Post
-holds-neighbour-count-requires t c κs = let s = start t (c .before .before .before .before) in let own = c .rows-of .ensures in let w = s .pre .1 .0 in (omega (arith, inside t (c .before .before .before .before), s .pre .0, own .rises, own .ends, sized-file _ (w .well) .few-rows), (w, own .rises, own .ends))
+holds-neighbour-count-requires t c κs = let s = start t (c .before .before .before .before) in let own = c .rows-of .ensures in let w = s .pre .1 .0 in (omega (arith, inside t (c .before .before .before .before), s .pre .0), (w, own .rises, own .ends))
 
 holds-reached-requires : (t : ℕ) → holds-lts.Need-reached-requires (holds-given t) (holds-at t) holds.Post
 holds-reached-requires t c κs = search needs
@@ -198,97 +198,87 @@ holds-returns-7 t c =
     (c .holds3 .ensures)
 
 holds-returns-8 : (t : ℕ) → holds-lts.Need-returns-8 (holds-given t) (holds-at t) holds.Post
-holds-returns-8 t c = rw (c .reached .ensures) (holds-least _ _ _ _ _ _ _ _ _ _ (reads-as t (c .before .before .before .before .before .before) ∙ ap some (c .before .before .before .before .kind3 .given .1)) (c .before .before .rows-of .ensures) (c .before .neighbour-count .ensures .1))
+holds-returns-8 t c = rw (c .reached .ensures) (holds-least _ _ _ _ _ _ _ _ _ _ (reads-as t (c .before .before .before .before .before .before) ∙ ap some (c .before .before .before .before .kind3 .given .1)) (c .before .before .rows-of .ensures) (c .before .neighbour-count .ensures))
 
 -- ---- neighbour_count
 
+-- the rows so far are summed
+abbrev Inv-loop : count-lts.InvT-loop
+Inv-loop q at s keys lowest low high sum₀ row₀ sum row = (low ≤ row) × (row ≤ high) × (sum ≤ 8 * (row - low)) × Summed q at (summaryIn s) low row sum
+
+abbrev μ-loop : count-lts.MeasureT-loop
+μ-loop q at s keys lowest low high sum₀ row₀ sum row = high - row
+
 -- a row is left
 abbrev Left : ℕ → Type 0
-Left t = count-lts.Else1 (count-given t) (count-at t) count.Post
+Left t = count-lts.In-loop (count-given t) (count-at t) count.Post Inv-loop μ-loop
 
-abbrev count-start : (t : ℕ) → Left t → count-lts.Start (count-given t) (count-at t) count.Post
-count-start t c = c .before .before .before .before .before
+abbrev count-start : (t : ℕ) → Left t → count-lts.Start (count-given t) (count-at t) count.Post Inv-loop μ-loop
+count-start t c = c .before .before .before .before .before .before
 
-row-there : (t : ℕ) (c : Left t) → HasRow (count-start t c .args .s .now) (count-start t c .args .row)
+row-there : (t : ℕ) (c : Left t) → HasRow (count-start t c .args .s .now) (c .before .loop .row)
 row-there t c =
     let s = count-start t c in
-    record { exact-is = well-file _ (s .pre .1 .0 .well) .0; row-is = omega (arith, c .if1 .left, s .pre .1 .2) }
+    record { exact-is = well-file _ (s .pre .1 .0 .well) .0; row-is = omega (arith, c .loop-test .taken, s .pre .1 .2) }
 
 -- the class at which the operand is asked
-asked : (t : ℕ) (c : count-lts.After-lowest-of (count-given t) (count-at t) count.Post) →
-    let s = count-start t (c .before .before .before .before .before .before) .args in
-    (c .lowest-of .result .0 ≡ lowestClass (summaryIn (s .s .now)) ((rowOf (summaryIn (s .s .now)) (s .row)) .group)) × (c .lowest-of .result .0 < length (summaryIn (s .s .now) .classes))
+asked : (t : ℕ) (c : count-lts.After-lowest-of (count-given t) (count-at t) count.Post Inv-loop μ-loop) →
+    let l = c .before .before in
+    let S = summaryIn (count-start t l .args .s .now) in
+    (c .lowest-of .result .0 ≡ lowestClass S ((rowOf S (l .before .loop .row)) .group)) × (c .lowest-of .result .0 < length (S .classes))
 asked t c =
-    let l = c .before .before .before .before .before .before in
+    let l = c .before .before in
     lowest-asked _ _ _ (count-start t l .pre .1 .0) _ (row-there t l .row-is) _ _ (c .before .row-group .ensures) (c .lowest-of .ensures)
 
--- the sum of the rows behind this one
-behind : (t : ℕ) (c : count-lts.After-known-told (count-given t) (count-at t) count.Post) →
-    let s = count-start t (c .before .before .before .before) .args in
-    c .before .rest .given .0 .0 ≤ 8 * (s .end - (s .row + 1))
-behind t c = omega (arith, c .before .before .before .neighbour-count .ensures .0, ap sumOf (c .before .rest .given .1))
+count-loop-holds : (t : ℕ) → count-lts.Need-loop-holds (count-given t) (count-at t) count.Post Inv-loop μ-loop
+count-loop-holds t c = (search needs, c .before .before .before .before .pre .1 .1, omega arith, summed-none _ _ _ _)
 
--- and with this one
-most : (t : ℕ) (c : count-lts.After-row-count (count-given t) (count-at t) count.Post) →
-    let s = count-start t (c .before .before .before .before .before .before .before .before .before .before .before .before) .args in
-    (c .before .before .before .before .before .before .before .before .before .rest .given .0 .0 + c .row-count .result ≤ 8 * (s .end - s .row)) × (c .before .before .before .before .before .before .before .before .before .rest .given .0 .0 + c .row-count .result ≤ 32768)
-most t c =
-    let l = c .before .before .before .before .before .before .before .before .before .before .before .before in
-    let s = count-start t l in
-    sum-most _ _ _ (s .pre .1 .0) _ (row-there t l .row-is) _ _ _ (l .if1 .left) (s .pre .1 .2) (behind t (c .before .before .before .before .before .before .before .before)) (c .row-count .ensures)
+count-row-group-requires : (t : ℕ) → count-lts.Need-row-group-requires (count-given t) (count-at t) count.Post Inv-loop μ-loop
+count-row-group-requires t c κs = row-there t c
 
-count-returns : (t : ℕ) → count-lts.Need-returns (count-given t) (count-at t) count.Post
-count-returns t c = (omega arith, counts-none _ _ _ _ _ (c .if1 .taken))
+count-lowest-of-requires : (t : ℕ) → count-lts.Need-lowest-of-requires (count-given t) (count-at t) count.Post Inv-loop μ-loop
+count-lowest-of-requires t c κs = let s = c .before .before .before .before .before .before .before in group-below _ _ _ (s .pre .1 .0) _ (row-there t (c .before) .row-is) _ (c .row-group .ensures)
 
-count-add-neighbour-count : (t : ℕ) → count-lts.Need-add-neighbour-count (count-given t) (count-at t) count.Post
-count-add-neighbour-count t c = search needs
+count-holds-requires : (t : ℕ) → count-lts.Need-holds-requires (count-given t) (count-at t) count.Post Inv-loop μ-loop
+count-holds-requires t c κs = let s = c .before .before .before .before .before .before .before .before in (omega (arith, s .pre .0), (s .pre .1 .0, asked t c .1))
 
-count-neighbour-count-requires : (t : ℕ) → count-lts.Need-neighbour-count-requires (count-given t) (count-at t) count.Post
-count-neighbour-count-requires t c κs = let s = c .before .before .before .before .before in (omega (arith, s .pre .0, c .if1 .left), (s .pre .1 .0, omega (arith, c .if1 .left), s .pre .1 .2))
-
-count-enum-known-rest : (t : ℕ) → count-lts.Need-enum-known-rest (count-given t) (count-at t) count.Post
-count-enum-known-rest t c = search needs
-
-count-enum-told : (t : ℕ) → count-lts.Need-enum-told (count-given t) (count-at t) count.Post
-count-enum-told t c = search needs
-
-count-returns-2 : (t : ℕ) → count-lts.Need-returns-2 (count-given t) (count-at t) count.Post
-count-returns-2 t c = (omega arith, counts-unsummed _ _ _ _ _ _ (c .before .before .neighbour-count .ensures .1) _ _ (c .enum-told .given .1))
-
-count-row-group-requires : (t : ℕ) → count-lts.Need-row-group-requires (count-given t) (count-at t) count.Post
-count-row-group-requires t c κs = row-there t (c .before .before .before .before)
-
-count-lowest-of-requires : (t : ℕ) → count-lts.Need-lowest-of-requires (count-given t) (count-at t) count.Post
-count-lowest-of-requires t c κs = let s = c .before .before .before .before .before .before .before .before .before .before in group-below _ _ _ (s .pre .1 .0) _ (row-there t (c .before .before .before .before .before) .row-is) _ (c .row-group .ensures)
-
-count-holds-requires : (t : ℕ) → count-lts.Need-holds-requires (count-given t) (count-at t) count.Post
-count-holds-requires t c κs = let s = c .before .before .before .before .before .before .before .before .before .before .before in (omega (arith, s .pre .0), (s .pre .1 .0, asked t c .1))
-
-count-enum-known-yes : (t : ℕ) → count-lts.Need-enum-known-yes (count-given t) (count-at t) count.Post
+count-enum-known-yes : (t : ℕ) → count-lts.Need-enum-known-yes (count-given t) (count-at t) count.Post Inv-loop μ-loop
 count-enum-known-yes t c = search needs
 
-count-enum-told-2 : (t : ℕ) → count-lts.Need-enum-told-2 (count-given t) (count-at t) count.Post
-count-enum-told-2 t c = search needs
+count-enum-told : (t : ℕ) → count-lts.Need-enum-told (count-given t) (count-at t) count.Post Inv-loop μ-loop
+count-enum-told t c = search needs
 
-count-returns-3 : (t : ℕ) → count-lts.Need-returns-3 (count-given t) (count-at t) count.Post
-count-returns-3 t c = (omega arith, counts-unasked _ _ _ _ _ _ (c .before .before .before .before .before .before .before .before .neighbour-count .ensures .1) _ (asked t (c .before .before .before) .0) _ (c .before .before .holds .ensures) _ _ (c .enum-told2 .given .1))
+count-returns : (t : ℕ) → count-lts.Need-returns (count-given t) (count-at t) count.Post Inv-loop μ-loop
+count-returns t c = counts-unasked _ _ _ _ _ _ (asked t (c .before .before .before) .0) _ (c .before .before .holds .ensures) _ _ _ (c .enum-told .given .1)
 
-count-row-count-requires : (t : ℕ) → count-lts.Need-row-count-requires (count-given t) (count-at t) count.Post
-count-row-count-requires t c κs = row-there t (c .before .before .before .before .before .before .before .before .before .before .before)
+count-row-count-requires : (t : ℕ) → count-lts.Need-row-count-requires (count-given t) (count-at t) count.Post Inv-loop μ-loop
+count-row-count-requires t c κs = row-there t (c .before .before .before .before .before .before)
 
-count-cast-t20 : (t : ℕ) → count-lts.Need-cast-t20 (count-given t) (count-at t) count.Post
-count-cast-t20 t c = search needs
+count-added-requires : (t : ℕ) → count-lts.Need-added-requires (count-given t) (count-at t) count.Post Inv-loop μ-loop
+count-added-requires t c κs =
+    let l = c .before .before .before .before .before .before .before .before .loop .inv in
+    let s = c .before .before .before .before .before .before .before .before .before .before .before .before .before in
+    sum-most _ _ _ (s .pre .1 .0) _ (row-there t (c .before .before .before .before .before .before .before) .row-is) _ _ _ _ (l .0) (c .before .before .before .before .before .before .before .loop-test .taken) (s .pre .1 .2) (l .2) (c .row-count .ensures)
 
-count-add-t21 : (t : ℕ) → count-lts.Need-add-t21 (count-given t) (count-at t) count.Post
-count-add-t21 t c = omega (arith, most t c .1)
+count-add-row : (t : ℕ) → count-lts.Need-add-row (count-given t) (count-at t) count.Post Inv-loop μ-loop
+count-add-row t c = omega arith
 
-count-returns-4 : (t : ℕ) → count-lts.Need-returns-4 (count-given t) (count-at t) count.Post
-count-returns-4 t c =
-    (most t c .0, counts-in _ _ _ _ _ _ (c .before .before .before .before .before .before .before .before .before .before .before .neighbour-count .ensures .1) _ (asked t (c .before .before .before .before .before .before) .0) _ (c .before .before .before .before .before .holds .ensures) (c .before .before .before .before .before .before .before .before .before .before .before .before .if1 .left) _ (c .before .before .before .before .before .before .before .before .before .rest .given .1) _ _ (c .before .if2 .taken) (c .before .before .before .yes .given .1) (c .row-count .ensures))
+count-loop-less : (t : ℕ) → count-lts.Need-loop-less (count-given t) (count-at t) count.Post Inv-loop μ-loop
+count-loop-less t c = omega arith
 
-count-returns-5 : (t : ℕ) → count-lts.Need-returns-5 (count-given t) (count-at t) count.Post
-count-returns-5 t c =
-    (omega (arith, behind t (c .before .before .before .before .before .before .before), c .before .before .before .before .before .before .before .before .before .before .before .if1 .left), counts-out _ _ _ _ _ _ (c .before .before .before .before .before .before .before .before .before .before .neighbour-count .ensures .1) _ (asked t (c .before .before .before .before .before) .0) _ (c .before .before .before .before .holds .ensures) (c .before .before .before .before .before .before .before .before .before .before .before .if1 .left) _ (c .before .before .before .before .before .before .before .before .rest .given .1) _ (c .if2 .left) (c .before .before .yes .given .1))
+count-loop-again : (t : ℕ) → count-lts.Need-loop-again (count-given t) (count-at t) count.Post Inv-loop μ-loop
+count-loop-again t c =
+    let l = c .before .before .before .before .before .before .before .before .before .loop .inv in
+    let s = c .before .before .before .before .before .before .before .before .before .before .before .before .before .before in
+    let m = c .before .row-count .ensures in (
+      omega (arith, l .0),
+      omega (arith, c .before .before .before .before .before .before .before .before .loop-test .taken),
+      rw (c .added .ensures) (added-most _ _ _ (s .pre .1 .0) _ (row-there t (c .before .before .before .before .before .before .before .before) .row-is) _ _ _ (c .before .before .before .yes .given .0 .0) (l .0) (l .2) m),
+      rw (c .added .ensures) (one-summed _ _ _ _ _ _ (asked t (c .before .before .before .before .before .before) .0) _ (c .before .before .before .before .before .holds .ensures) _ _ (c .before .before .before .yes .given .0 .0) (l .0) (c .before .before .before .yes .given .1) m (l .3)),
+    )
+
+count-returns-2 : (t : ℕ) → count-lts.Need-returns-2 (count-given t) (count-at t) count.Post Inv-loop μ-loop
+count-returns-2 t c = let l = c .before .loop .inv in summed-all _ _ _ _ _ _ _ (omega (arith, l .1, c .loop-test .left)) (l .3)
 
 pub +holds+neighbour-count-spec : {M : Type 1} → statement M
 +holds+neighbour-count-spec = close μ-holds μ-count (λ t. holds-lts.spec (holds-given t)
@@ -329,20 +319,18 @@ pub +holds+neighbour-count-spec : {M : Type 1} → statement M
     λ t. count-lts.spec (count-given t)
     (count-at t)
     count.Post
-    (count-returns t)
-    (count-add-neighbour-count t)
-    (count-neighbour-count-requires t)
-    (count-enum-known-rest t)
-    (count-enum-told t)
-    (count-returns-2 t)
+    Inv-loop
+    μ-loop
+    (count-loop-holds t)
     (count-row-group-requires t)
     (count-lowest-of-requires t)
     (count-holds-requires t)
     (count-enum-known-yes t)
-    (count-enum-told-2 t)
-    (count-returns-3 t)
+    (count-enum-told t)
+    (count-returns t)
     (count-row-count-requires t)
-    (count-cast-t20 t)
-    (count-add-t21 t)
-    (count-returns-4 t)
-    (count-returns-5 t)
+    (count-added-requires t)
+    (count-add-row t)
+    (count-loop-less t)
+    (count-loop-again t)
+    (count-returns-2 t)
