@@ -17,8 +17,7 @@ pub fn ask_register(register: &[u8], question: &[u8], item: Item) -> Result<bool
     answers.get(item.0).copied().ok_or(Refusal::ItemNumber)
 }
 
-/// Yes or no; refusals in the order 6, 5, 7, 8. No line that `second` prints needs this call yet.
-#[cfg_attr(not(test), expect(dead_code))]
+/// Yes or no; refusals in the order 6, 5, 7, 8.
 pub fn ask_summary(summary: &[u8], question: &[u8], item: Item) -> Result<bool, Refusal> {
     let summary = Summary::read(summary)?;
     let question = question_within_reach(question, &summary)?;
@@ -27,9 +26,7 @@ pub fn ask_summary(summary: &[u8], question: &[u8], item: Item) -> Result<bool, 
 }
 
 /// The items where the question holds, ascending, "two bytes an item"; refusals in the order 6, 5,
-/// 7, 9. `room` is the length of the output buffer. No line that `second` prints needs this call
-/// yet.
-#[cfg_attr(not(test), expect(dead_code))]
+/// 7, 9. `room` is the length of the output buffer.
 pub fn list_from_summary(summary: &[u8], question: &[u8], room: usize) -> Result<Vec<u8>, Refusal> {
     let summary = Summary::read(summary)?;
     let question = question_within_reach(question, &summary)?;

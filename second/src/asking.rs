@@ -40,7 +40,7 @@ pub fn letter(answer: Result<bool, Refusal>) -> char {
     }
 }
 
-fn answers(register: &[u8], question: &[u8], items: Range<usize>) -> String {
+pub fn answers(register: &[u8], question: &[u8], items: Range<usize>) -> String {
     items.map(|item| answer(register, question, item)).collect()
 }
 

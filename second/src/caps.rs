@@ -1,6 +1,9 @@
 //! Capped counts, and the ranges of the level and the two caps. The value one above a cap says
 //! "more than the cap" and never an exact number.
 
+/// Level, neighbour cap and class cap, in range or not.
+pub type LevelAndCaps = (usize, usize, usize);
+
 /// "A count capped at k is the count itself up to k, and k + 1 for anything more."
 pub fn capped(count: usize, cap: usize) -> usize {
     if count <= cap {

@@ -2,7 +2,7 @@
 //! Four families, in this order: length, limit, faults, seeded.
 
 use crate::bytes::{two_bytes, two_bytes_each};
-use crate::generator::damaged_register;
+use crate::generator::{damage, seeded_register, Dice};
 use crate::link::Link;
 use crate::numbers::Item;
 use crate::register::Register;
@@ -138,4 +138,16 @@ fn print_seeded(out: &mut impl Write) -> io::Result<()> {
         writeln!(out, "seeded {seed} {verdict}")?;
     }
     Ok(())
+}
+
+/// Damaged once, and now and then a second time.
+fn damaged_register(seed: u64) -> Vec<u8> {
+    let dice = &mut Dice::of_seed(seed);
+    let register = seeded_register(seed, dice);
+    let mut file = register.write();
+    damage(&mut file, &register, dice);
+    if dice.below(4) == 0 {
+        damage(&mut file, &register, dice);
+    }
+    file
 }

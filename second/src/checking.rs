@@ -1,6 +1,6 @@
 //! The cases of checking: proposed summaries, sound and spoilt, checked against registers, one line
 //! for each case. Seven families, in this order: faulty, stepped, fielded, cut, parted, proposed,
-//! checked.
+//! checked. An eighth, wrecked, follows them and has a file of its own.
 //!
 //! Answer. One letter: `y` or `n` for what the check says, or the digit of the refusal. Several
 //! answers stand together without a blank.
@@ -30,34 +30,20 @@
 //!   proposed  the number of a proposed summary, 0 to 21, against A, B and E.
 //!   checked   seed 1 to 2000. The dice give the small register, or, where 100 divides the seed,
 //!             the large one; then level and caps, as for condensing; then what is done to the
-//!             summary of that register. Against its own register, and against the small register
-//!             that dice of the seed plus 10007 give.
-//!
-//! What is done to a summary. With L the length of its file, and n and c the item count and the
-//! class count in its header, throw below 9:
-//!   0, 1  nothing.
-//!   2     throw below L for a place, then below 256 for the byte put there.
-//!   3     throw below L / 2 for a field, then below 8 for its new number.
-//!   4     throw below L / 2 for a field; its number grows by one, 65,535 becoming 0.
-//!   5     throw below L + 1; the file is cut to that length.
-//!   6     throw below 8, then below 256: the file grows longer by one more than the first throw;
-//!         the byte right behind its old end is the second throw, the others behind it are zero.
-//!   7     throw below L / 2 twice; these two fields change places.
-//!   8     if n > 0: throw below n for an item, then below c + 1 for its number in the map.
-//! L may be more than 32,768; a throw below such a number is the whole part of state / 65536 as it
-//! is.
+//!             summary of that register, as the generator of spoilt summaries tells. Against its
+//!             own register, and against the small register that dice of the seed plus 10007 give.
 
 use crate::asking::{letter, sound_and_faulty_files};
-use crate::bytes::{two_at, with_number};
+use crate::bytes::with_number;
 use crate::cases::base_register;
 use crate::check::check;
 use crate::condense::summary_of;
-use crate::condensing::thrown_level_and_caps;
-use crate::generator::{seeded_register, small_register, Dice};
+use crate::generator::{seeded_register, small_register, thrown_level_and_caps, Dice};
 use crate::proposed::PROPOSED;
 use crate::register::Register;
 use crate::shapes::{empty_register, register_a, register_b};
-use crate::summary::{Summary, MAPPED};
+use crate::summary::Summary;
+use crate::summary_generator::spoil;
 use std::io::{self, Write};
 
 pub fn print(out: &mut impl Write) -> io::Result<()> {
@@ -75,12 +61,12 @@ fn answer(register: &[u8], summary: &[u8]) -> char {
 }
 
 /// The answers against each of the registers in turn.
-fn answers(registers: &[Vec<u8>], summary: &[u8]) -> String {
+pub fn answers(registers: &[Vec<u8>], summary: &[u8]) -> String {
     let against = |register: &Vec<u8>| answer(register, summary);
     registers.iter().map(against).collect()
 }
 
-fn files<const COUNT: usize>(registers: [Register; COUNT]) -> [Vec<u8>; COUNT] {
+pub fn files<const COUNT: usize>(registers: [Register; COUNT]) -> [Vec<u8>; COUNT] {
     registers.map(|register| register.write())
 }
 
@@ -89,7 +75,7 @@ fn a_and_b() -> [Vec<u8>; 2] {
 }
 
 /// SUM.
-fn summary_of_a() -> Summary {
+pub fn summary_of_a() -> Summary {
     summary_of(&register_a(), 1, 1, 1)
 }
 
@@ -153,23 +139,23 @@ fn print_cut(out: &mut impl Write) -> io::Result<()> {
 }
 
 #[derive(Clone, Copy)]
-enum Part {
+pub enum Part {
     Classes,
     Rows,
     ClassLinks,
     Map,
 }
 
-const PARTS: [Part; 4] = [Part::Classes, Part::Rows, Part::ClassLinks, Part::Map];
+pub const PARTS: [Part; 4] = [Part::Classes, Part::Rows, Part::ClassLinks, Part::Map];
 
 #[derive(Clone, Copy)]
-enum Deed {
+pub enum Deed {
     LeaveOut,
     PutTwice,
     ChangePlaces,
 }
 
-const DEEDS: [Deed; 3] = [Deed::LeaveOut, Deed::PutTwice, Deed::ChangePlaces];
+pub const DEEDS: [Deed; 3] = [Deed::LeaveOut, Deed::PutTwice, Deed::ChangePlaces];
 
 /// Each deed at each record of each part.
 fn print_parted(out: &mut impl Write) -> io::Result<()> {
@@ -187,7 +173,7 @@ fn print_parted(out: &mut impl Write) -> io::Result<()> {
     Ok(())
 }
 
-fn record_count(part: Part, summary: &Summary) -> usize {
+pub fn record_count(part: Part, summary: &Summary) -> usize {
     match part {
         Part::Classes => summary.classes.len(),
         Part::Rows => summary.rows.len(),
@@ -197,7 +183,7 @@ fn record_count(part: Part, summary: &Summary) -> usize {
 }
 
 /// Counts, offsets and length follow when the summary is written.
-fn do_deed_in_part(part: Part, record: usize, deed: Deed, summary: &mut Summary) {
+pub fn do_deed_in_part(part: Part, record: usize, deed: Deed, summary: &mut Summary) {
     match part {
         Part::Classes => do_deed(deed, record, &mut summary.classes),
         Part::Rows => do_deed(deed, record, &mut summary.rows),
@@ -240,51 +226,4 @@ fn print_checked(out: &mut impl Write) -> io::Result<()> {
         writeln!(out, "checked {seed} {answers}")?;
     }
     Ok(())
-}
-
-pub fn spoil(file: &mut Vec<u8>, dice: &mut Dice) {
-    let length = file.len();
-    match dice.below(9) {
-        2 => {
-            let place = dice.below(length);
-            file[place] = dice.below(256) as u8;
-        }
-        3 => {
-            let at = thrown_field(length, dice);
-            *file = with_number(file, at, dice.below(8));
-        }
-        4 => {
-            let at = thrown_field(length, dice);
-            *file = with_number(file, at, (two_at(file, at) + 1) % 65_536);
-        }
-        5 => file.truncate(dice.below(length + 1)),
-        6 => {
-            let longer = length + 1 + dice.below(8);
-            file.push(dice.below(256) as u8);
-            file.resize(longer, 0);
-        }
-        7 => {
-            let one = thrown_field(length, dice);
-            let other = thrown_field(length, dice);
-            file.swap(one, other);
-            file.swap(one + 1, other + 1);
-        }
-        8 => map_an_item_anew(file, dice),
-        _ => {}
-    }
-}
-
-/// Where a thrown field stands in a file of that length.
-fn thrown_field(length: usize, dice: &mut Dice) -> usize {
-    2 * dice.below(length / 2)
-}
-
-/// The map is the last of the file.
-fn map_an_item_anew(file: &mut Vec<u8>, dice: &mut Dice) {
-    let (c, n) = (two_at(file, 6), two_at(file, 14));
-    if n > 0 {
-        let item = dice.below(n);
-        let map = file.len() - MAPPED * n;
-        *file = with_number(file, map + MAPPED * item, dice.below(c + 1));
-    }
 }

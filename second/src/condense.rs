@@ -94,7 +94,8 @@ fn lowest_items(map: &[Class]) -> Vec<Item> {
     lowest.into_values().collect()
 }
 
-/// "Class: marks, group, item count capped at ν." Members agree on marks and group.
+/// "Class, eight bytes: marks (four), group, item count capped at ν." Members agree on marks and
+/// group.
 fn class_entries(
     register: &Register,
     map: &[Class],
@@ -113,7 +114,8 @@ fn class_entries(
     lowest.iter().map(entry).collect()
 }
 
-/// "Row: class, direction and label, group, neighbour count capped at µ." Members agree on these.
+/// "Row, eight bytes: class, direction times 16 plus label (out 0, in 1), group, neighbour count
+/// capped at µ." Members agree on these, and each class is told of by its lowest.
 fn rows(register: &Register, groups: &[Group], lowest: &[Item], cap: usize) -> Vec<Row> {
     let mut rows = Vec::new();
     for (class, item) in lowest.iter().enumerate() {
@@ -129,8 +131,8 @@ fn rows(register: &Register, groups: &[Group], lowest: &[Item], cap: usize) -> V
     rows
 }
 
-/// "Class link: source class, label, target class; present exactly when some member of the first
-/// has such a link to some member of the second." Ascending, each once.
+/// "Class link, six bytes: source class, label, target class; present exactly when some member of
+/// the first has such a link to some member of the second." Ascending, each once.
 fn class_links(register: &Register, map: &[Class]) -> Vec<Link<Class>> {
     let images: BTreeSet<_> = register.links.iter().map(|link| link.image(map)).collect();
     images.into_iter().collect()

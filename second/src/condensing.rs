@@ -30,13 +30,14 @@
 //!              as the generator tells. Then level and caps. With L the length that the first
 //!              answer wrote, 0 if it was refused, the other three buffers have L − 1 bytes (0
 //!              where L is 0), L bytes, and L + 3 bytes.
-//! Level and caps from dice: one more than a throw below 4, one more than a throw below 7, one more
-//! than a throw below 15.
+//! Level and caps from dice are thrown as the generator tells.
 
 use crate::asking::sound_and_faulty_files;
+use crate::caps::LevelAndCaps;
 use crate::cases::{base_register, paired_register};
 use crate::condense::condense;
-use crate::generator::{damage, seeded_register, Dice};
+use crate::generator::{damage, seeded_register, thrown_level_and_caps, Dice};
+use crate::lent::buffer_after;
 use crate::refusal::Refusal;
 use crate::shapes::{labelled_register, register_a, SHAPES};
 use crate::summary::MOST_LENGTH;
@@ -44,11 +45,8 @@ use std::fmt;
 use std::io::{self, Write};
 
 /// Eight bytes more than any summary has.
-const ROOM: usize = MOST_LENGTH + 8;
-const SMALL_ROOM: usize = 200;
-
-/// Level, neighbour cap and class cap, in range or not.
-type LevelAndCaps = (usize, usize, usize);
+pub const ROOM: usize = MOST_LENGTH + 8;
+pub const SMALL_ROOM: usize = 200;
 
 pub fn print(out: &mut impl Write) -> io::Result<()> {
     print_ranges(out)?;
@@ -62,12 +60,19 @@ pub fn print(out: &mut impl Write) -> io::Result<()> {
 }
 
 /// What the call gave, and the hash of the buffer that was lent to it.
-struct Answer {
+pub struct Answer {
     length: Result<usize, Refusal>,
     hash: u32,
 }
 
 impl Answer {
+    /// Of a call that was lent a buffer of that length, by what it gave to write.
+    pub fn into_lent(room: usize, given: Result<Vec<u8>, Refusal>) -> Answer {
+        let hash = hash(&buffer_after(room, &given));
+        let length = given.map(|bytes| bytes.len());
+        Answer { length, hash }
+    }
+
     /// The length that was written, 0 where the call refused.
     fn written(&self) -> usize {
         self.length.unwrap_or(0)
@@ -83,21 +88,18 @@ impl fmt::Display for Answer {
     }
 }
 
-/// "A refusal returns its number only, and no lent byte changes. A success returns the length
-/// written, or yes or no; bytes past that length stay."
-fn answer(register: &[u8], (level, mu, nu): LevelAndCaps, room: usize) -> Answer {
-    let mut lent = filled_buffer(room);
-    let condensed = condense(level, mu, nu, register, room);
-    let length = condensed.map(|summary| {
-        lent[..summary.len()].copy_from_slice(&summary);
-        summary.len()
-    });
-    let hash = hash(&lent);
-    Answer { length, hash }
+pub fn answer(register: &[u8], (level, mu, nu): LevelAndCaps, room: usize) -> Answer {
+    Answer::into_lent(room, condense(level, mu, nu, register, room))
 }
 
-pub fn filled_buffer(length: usize) -> Vec<u8> {
-    (0..length).map(|p| (7 * p + 5) as u8).collect()
+/// With that much room; then, by the length written there, with one byte less, with just as many
+/// bytes, and with three more.
+pub fn answers_by_room(room: usize, answer: impl Fn(usize) -> Answer) -> [Answer; 4] {
+    let first = answer(room);
+    let length = first.written();
+    let rooms = [length.saturating_sub(1), length, length + 3];
+    let [short, exact, longer] = rooms.map(answer);
+    [first, short, exact, longer]
 }
 
 /// Numbers of 32 bits wrap around at 2^32.
@@ -215,18 +217,9 @@ fn print_condensed(out: &mut impl Write) -> io::Result<()> {
             damage(&mut file, &register, dice);
         }
         let level_and_caps = thrown_level_and_caps(dice);
-        let first = answer(&file, level_and_caps, ROOM);
-        let length = first.written();
-        let rooms = [length.saturating_sub(1), length, length + 3];
-        let [short, exact, longer] = rooms.map(|room| answer(&file, level_and_caps, room));
+        let [first, short, exact, longer] =
+            answers_by_room(ROOM, |room| answer(&file, level_and_caps, room));
         writeln!(out, "condensed {seed} {first} {short} {exact} {longer}")?;
     }
     Ok(())
-}
-
-pub fn thrown_level_and_caps(dice: &mut Dice) -> LevelAndCaps {
-    let level = 1 + dice.below(4);
-    let neighbour_cap = 1 + dice.below(7);
-    let class_cap = 1 + dice.below(15);
-    (level, neighbour_cap, class_cap)
 }

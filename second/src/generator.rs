@@ -34,8 +34,12 @@
 //! Header field f is the two-byte number at 2f, link j the six bytes at 12 + 4n + 6j. In a file
 //! that was cut, bytes beyond the end read as 0, and what would be written there is dropped, byte
 //! by byte. Both links of 9 and 10 are read before either is written.
+//!
+//! Level and caps, for a register that is condensed: one more than a throw below 4, one more than a
+//! throw below 7, one more than a throw below 15.
 
 use crate::bytes::two_bytes;
+use crate::caps::LevelAndCaps;
 use crate::link::Link;
 use crate::numbers::Item;
 use crate::register::Register;
@@ -53,17 +57,6 @@ impl Dice {
         self.state = (self.state * 1_103_515_245 + 12_345) % (1 << 31);
         (self.state / 65_536) as usize % k
     }
-}
-
-pub fn damaged_register(seed: u64) -> Vec<u8> {
-    let mut dice = Dice::of_seed(seed);
-    let register = seeded_register(seed, &mut dice);
-    let mut file = register.write();
-    damage(&mut file, &register, &mut dice);
-    if dice.below(4) == 0 {
-        damage(&mut file, &register, &mut dice);
-    }
-    file
 }
 
 /// The register that the seed calls for, small or large, from the seed's own dice.
@@ -123,6 +116,13 @@ pub fn thrown_marks(n: usize, dice: &mut Dice) -> Vec<u32> {
     (0..n).map(|_| choice[dice.below(4)]).collect()
 }
 
+pub fn thrown_level_and_caps(dice: &mut Dice) -> LevelAndCaps {
+    let level = 1 + dice.below(4);
+    let neighbour_cap = 1 + dice.below(7);
+    let class_cap = 1 + dice.below(15);
+    (level, neighbour_cap, class_cap)
+}
+
 pub fn damage(file: &mut Vec<u8>, register: &Register, dice: &mut Dice) {
     let m = register.links.len();
     match dice.below(12) {
@@ -177,11 +177,13 @@ fn two_links(register: &Register, dice: &mut Dice) -> (usize, usize) {
     (link_offset(register, j - 1), link_offset(register, j))
 }
 
-fn link_offset(register: &Register, j: usize) -> usize {
+/// Where link j stands in the file of the register as made.
+pub fn link_offset(register: &Register, j: usize) -> usize {
     12 + 4 * register.marks.len() + 6 * j
 }
 
-fn put(file: &mut [u8], at: usize, bytes: &[u8]) {
+/// What would be written beyond the end is dropped.
+pub fn put(file: &mut [u8], at: usize, bytes: &[u8]) {
     for (place, byte) in file.iter_mut().skip(at).zip(bytes) {
         *place = *byte;
     }

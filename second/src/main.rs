@@ -1,7 +1,10 @@
 //! `second`: crane registers, their summaries, and questions on both, written a second time.
 //! Without an argument it judges a fixed set of registers, asks a fixed set of questions, condenses
-//! a fixed set of registers, checks a fixed set of proposed summaries, and prints one line for each
-//! case; `second condense` condenses the register on standard input and prints its summary.
+//! a fixed set of registers, checks a fixed set of proposed summaries, asks and lists from a fixed
+//! set of summaries, makes every call at the limits, makes all five on a fixed set of thrown
+//! inputs, and prints one line for each case. `second condense` condenses the register on standard
+//! input and prints its summary. `second counts` counts how the thrown inputs were answered, and
+//! how many of them have two faults at once.
 
 mod answers;
 mod asking;
@@ -12,8 +15,14 @@ mod check;
 mod checking;
 mod condense;
 mod condensing;
+mod counts;
+mod five;
+mod five_generator;
 mod generator;
+mod lent;
+mod limits_run;
 mod link;
+mod listing;
 mod neighbours;
 mod numbers;
 mod program;
@@ -24,7 +33,9 @@ mod refusal;
 mod register;
 mod shapes;
 mod summary;
+mod summary_generator;
 mod wellformed;
+mod wrecked;
 
 #[cfg(test)]
 mod tests;
@@ -42,10 +53,15 @@ fn main() -> io::Result<ExitCode> {
             asking::print(&mut out)?;
             condensing::print(&mut out)?;
             checking::print(&mut out)?;
+            wrecked::print(&mut out)?;
+            listing::print(&mut out)?;
+            limits_run::print(&mut out)?;
+            five::print(&mut out)?;
         }
         [word] if word == "condense" => program::run(io::stdin().lock(), &mut out)?,
+        [word] if word == "counts" => counts::print(&mut out)?,
         _ => {
-            eprintln!("usage: second [condense]");
+            eprintln!("usage: second [condense | counts]");
             return Ok(ExitCode::from(2));
         }
     }

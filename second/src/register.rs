@@ -9,7 +9,7 @@ use crate::refusal::Refusal;
 pub const MOST_ITEMS: usize = 1_024;
 pub const MOST_LINKS: usize = 2_048;
 
-const HEADER: usize = 12;
+pub const HEADER: usize = 12;
 const MARKS: usize = 4;
 const LINK: usize = 6;
 
@@ -28,21 +28,15 @@ impl Register {
         if n > MOST_ITEMS || m > MOST_LINKS {
             return Err(Refusal::RegisterLimits);
         }
-        let header = header(n, m);
-        let stated: Vec<usize> = (0..header.len()).map(|k| two_at(bytes, 2 * k)).collect();
-        if stated != header || bytes.len() != total_length(n, m) {
+        if !form_is_right(bytes, n, m) {
             return Err(Refusal::RegisterForm);
         }
-        let register = Register {
-            marks: (0..n).map(|x| four_at(bytes, HEADER + MARKS * x)).collect(),
-            links: (0..m)
-                .map(|k| link_at(bytes, links_offset(n) + LINK * k))
-                .collect(),
-        };
-        if !register.links_are_sound() {
+        let links = links_from(bytes, links_offset(n), m);
+        if !links_are_sound(&links, n) {
             return Err(Refusal::RegisterLinks);
         }
-        Ok(register)
+        let marks = (0..n).map(|x| four_at(bytes, HEADER + MARKS * x)).collect();
+        Ok(Register { marks, links })
     }
 
     /// The file of these marks and links, in the order given, with an exact header.
@@ -60,14 +54,20 @@ impl Register {
     pub fn items(&self) -> impl Iterator<Item = Item> {
         (0..self.marks.len()).map(Item)
     }
+}
 
-    /// Items below n, "labels 0 to 15", and links "strictly ascending in that order of fields".
-    fn links_are_sound(&self) -> bool {
-        let n = self.marks.len();
-        let in_range =
-            |link: &Link<Item>| link.source.0 < n && link.target.0 < n && link.label <= MOST_LABEL;
-        self.links.iter().all(in_range) && self.links.is_sorted_by(|a, b| a < b)
-    }
+/// Whether offsets, total, zero field and length of 12 bytes or more are those of n items and m
+/// links.
+pub fn form_is_right(bytes: &[u8], n: usize, m: usize) -> bool {
+    let stated: [usize; 6] = std::array::from_fn(|k| two_at(bytes, 2 * k));
+    stated == header(n, m) && bytes.len() == total_length(n, m)
+}
+
+/// Items below n, "labels 0 to 15", and links "strictly ascending in that order of fields".
+pub fn links_are_sound(links: &[Link<Item>], n: usize) -> bool {
+    let in_range =
+        |link: &Link<Item>| link.source.0 < n && link.target.0 < n && link.label <= MOST_LABEL;
+    links.iter().all(in_range) && links.is_sorted_by(|a, b| a < b)
 }
 
 fn links_offset(n: usize) -> usize {
@@ -84,10 +84,16 @@ fn header(n: usize, m: usize) -> [usize; 6] {
     [n, m, HEADER, links_offset(n), total_length(n, m), 0]
 }
 
-fn link_at(bytes: &[u8], at: usize) -> Link<Item> {
+/// Up to m links, the first at `start`, as far as they stand whole within the bytes.
+pub fn links_from(bytes: &[u8], start: usize, m: usize) -> Vec<Link<Item>> {
+    let behind = bytes.get(start..).unwrap_or(&[]);
+    behind.chunks_exact(LINK).take(m).map(link_of).collect()
+}
+
+fn link_of(bytes: &[u8]) -> Link<Item> {
     Link {
-        source: Item(two_at(bytes, at)),
-        label: two_at(bytes, at + 2),
-        target: Item(two_at(bytes, at + 4)),
+        source: Item(two_at(bytes, 0)),
+        label: two_at(bytes, 2),
+        target: Item(two_at(bytes, 4)),
     }
 }

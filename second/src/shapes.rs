@@ -80,7 +80,7 @@ fn marked_by_threes(n: usize) -> Vec<u32> {
     [0, 1, 2].into_iter().cycle().take(n).collect()
 }
 
-fn chain(n: usize) -> Register {
+pub fn chain(n: usize) -> Register {
     register(unmarked(n), (1..n).map(|next| (next - 1, 0, next)))
 }
 
@@ -88,7 +88,7 @@ fn ring(n: usize) -> Register {
     register(unmarked(n), (0..n).map(|x| (x, 0, (x + 1) % n)))
 }
 
-fn star(n: usize) -> Register {
+pub fn star(n: usize) -> Register {
     register(unmarked(n), (1..n).map(|x| (0, 0, x)))
 }
 

@@ -30,6 +30,7 @@ pub struct Row {
     pub count: usize,
 }
 
+#[derive(Clone)]
 pub struct Summary {
     pub level: usize,
     pub neighbour_cap: usize,
@@ -53,7 +54,7 @@ pub struct Layout {
 impl Layout {
     /// "Classes (24), rows (24 + 8c), class links (24 + 8c + 8r), map (24 + 8c + 8r + 6e).
     /// Length is the last offset plus 2n."
-    pub fn of(c: usize, r: usize, e: usize, n: usize) -> Layout {
+    pub const fn of(c: usize, r: usize, e: usize, n: usize) -> Layout {
         let classes = HEADER;
         let rows = classes + CLASS * c;
         let class_links = rows + ROW * r;

@@ -1,15 +1,21 @@
 //! The tests: the document's examples by number, its limits, the refusals and their orders, the
-//! law that a summary answers as its register does, and the printed cases of asking, of condensing
-//! and of checking. What they share stands here.
+//! law that a summary answers as its register does, and the printed cases of asking, of condensing,
+//! of checking, of listing, of the run at the limits and of all five calls, with the counts of the
+//! last. What they share stands here.
 
 mod asking;
 mod check;
 mod checking;
 mod condensing;
+mod counts;
 mod examples;
+mod five;
 mod limits;
+mod limits_run;
+mod listing;
 mod property;
 mod refusals;
+mod wrecked;
 
 use crate::answers::{ask_register, ask_summary, list_from_summary};
 use crate::bytes::{two_bytes_each, with_number};

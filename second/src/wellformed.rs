@@ -8,11 +8,17 @@ use crate::numbers::{Class, Group};
 use crate::refusal::Refusal;
 use crate::register::{MOST_ITEMS, MOST_LINKS};
 use crate::summary::{ClassEntry, Layout, Row, Summary};
-use crate::summary::{CLASS, CLASS_LINK, HEADER, MAPPED, ROW};
+use crate::summary::{CLASS, CLASS_LINK, HEADER, MAPPED, MOST_LENGTH, ROW};
 use std::collections::BTreeSet;
 
 const MOST_CLASSES: usize = 1_024;
 const MOST_ROWS: usize = 4_096;
+
+/// "At most 55,320": a file at every limit at once is just so long.
+const _: () = {
+    let longest = Layout::of(MOST_CLASSES, MOST_ROWS, MOST_LINKS, MOST_ITEMS);
+    assert!(longest.length == MOST_LENGTH);
+};
 
 impl Summary {
     pub fn read(bytes: &[u8]) -> Result<Summary, Refusal> {

@@ -72,7 +72,7 @@ fn one_more(b: &mut [u8], m: Made) -> Made {
 }
 
 // Where link j of a register of n items stands.
-fn place(n: usize, j: usize) -> usize {
+pub fn place(n: usize, j: usize) -> usize {
     12 + 4 * (n % 65536) + 6 * (j % 65536)
 }
 
@@ -92,7 +92,8 @@ fn any_link(b: &mut [u8], m: Made, kind: u64) -> Made {
     made::thrown(m, dice)
 }
 
-fn spoil(b: &mut [u8], len: usize, at: usize, field: usize, v: u64) {
+// The number at `field` of the link at a place becomes v.
+pub fn spoil(b: &mut [u8], len: usize, at: usize, field: usize, v: u64) {
     if at < 65536 {
         if field < 6 {
             bytes::set_two(b, len, at + field, v);

@@ -26,3 +26,9 @@ impl Dice {
         self.state / 65536 % k
     }
 }
+
+// A length that throws told, and the dice as they lie then.
+pub struct Length {
+    pub len: usize,
+    pub dice: Dice,
+}

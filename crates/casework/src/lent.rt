@@ -26,6 +26,7 @@ pub fn hash(out: &[u8]) -> u64 {
     sum
 }
 
-fn hashed(sum: u64, b: u8) -> u64 {
+// One byte more.
+pub fn hashed(sum: u64, b: u8) -> u64 {
     (sum % 4294967296 * 65599 + bytes::wide(b) + 1) % 4294967296
 }

@@ -10,3 +10,4 @@ pub mod proposed;
 pub mod shapes;
 pub mod spoilt;
 pub mod thrown;
+pub mod vast;

@@ -17,7 +17,7 @@ pub fn proposed(b: &mut [u8], which: usize) -> usize {
 }
 
 // "Class count c, group count g, row count r, class-link count e, item count n", but g.
-fn put_counts(b: &mut [u8], rows: usize, links: usize, map: usize, end: usize) {
+pub fn put_counts(b: &mut [u8], rows: usize, links: usize, map: usize, end: usize) {
     bytes::set_two(b, 24, 6, records(24, rows, 8));
     bytes::set_two(b, 24, 10, records(rows, links, 8));
     bytes::set_two(b, 24, 12, records(links, map, 6));
@@ -25,7 +25,7 @@ fn put_counts(b: &mut [u8], rows: usize, links: usize, map: usize, end: usize) {
 }
 
 // "Four offsets: classes (24), rows, class links, map".
-fn put_offsets(b: &mut [u8], rows: usize, links: usize, map: usize) {
+pub fn put_offsets(b: &mut [u8], rows: usize, links: usize, map: usize) {
     bytes::set_two(b, 24, 16, 24);
     bytes::set_two(b, 24, 18, rows as u64);
     bytes::set_two(b, 24, 20, links as u64);

@@ -2,13 +2,15 @@
 // below len) becomes (throw below 256). 3: field (throw below len / 2) becomes (throw below 8). 4: field (throw below len / 2) grows by one.
 // 5: cut to (throw below len plus one). 6: longer by one more than (throw below 8), the byte behind the old end is (throw below 256).
 // 7: fields (throw below len / 2) and (throw below len / 2) change places. 8: in the map, item (throw below n) gets (throw below c plus one),
-// where there is an item. Field f is the two-byte number at 2f.
+// where there is an item, else nothing more is thrown. Field f is the two-byte number at 2f.
 // And a summary taken apart: a record left out, doubled, or changed with the next one.
 use crate::bytes;
 use crate::dice::Dice;
+use crate::dice::Length;
+ghost use Prim.Native.Nat.{_<_};
 
-// The length then.
-pub fn spoilt(s: &mut [u8], len: usize, dice: Dice) -> usize {
+// The length then, and the dice as they lie.
+pub fn spoilt(s: &mut [u8], len: usize, dice: Dice) -> Length {
     let kind = dice.thrown();
     match kind.shows(9) {
         2 => any_byte(s, len, kind),
@@ -18,18 +20,18 @@ pub fn spoilt(s: &mut [u8], len: usize, dice: Dice) -> usize {
         6 => longer(s, len, kind),
         7 => two_fields(s, len, kind),
         8 => any_item(s, len, kind),
-        _ => len,
+        _ => Length { len, dice: kind },
     }
 }
 
-fn any_byte(s: &mut [u8], len: usize, dice: Dice) -> usize {
+fn any_byte(s: &mut [u8], len: usize, dice: Dice) -> Length {
     if len == 0 {
-        return len;
+        return Length { len, dice };
     }
     let place = dice.thrown();
     let value = place.thrown();
     bytes::set(s, len, place.shows(len as u64) as usize, value.shows(256));
-    len
+    Length { len, dice: value }
 }
 
 // Where the field stands that a throw picks.
@@ -40,52 +42,63 @@ fn field(dice: Dice, len: usize) -> usize {
     2 * (dice.shows(len as u64 / 2) % 32768) as usize
 }
 
-fn any_field(s: &mut [u8], len: usize, dice: Dice) -> usize {
+fn any_field(s: &mut [u8], len: usize, dice: Dice) -> Length {
     let place = dice.thrown();
     let value = place.thrown();
     bytes::set_two(s, len, field(place, len), value.shows(8));
-    len
+    Length { len, dice: value }
 }
 
-fn grown_field(s: &mut [u8], len: usize, dice: Dice) -> usize {
-    let at = field(dice.thrown(), len);
+fn grown_field(s: &mut [u8], len: usize, dice: Dice) -> Length {
+    let place = dice.thrown();
+    let at = field(place, len);
     let grown = bytes::two(s, len, at) + 1;
     bytes::set_two(s, len, at, grown);
-    len
+    Length { len, dice: place }
 }
 
-fn cut(len: usize, dice: Dice) -> usize {
+fn cut(len: usize, dice: Dice) -> Length {
     if 1048576 < len {
-        return len;
+        return Length { len, dice };
     }
-    dice.thrown().shows(len as u64 + 1) as usize
+    let place = dice.thrown();
+    let short = place.shows(len as u64 + 1) as usize;
+    Length {
+        len: short,
+        dice: place,
+    }
 }
 
-fn longer(s: &mut [u8], len: usize, dice: Dice) -> usize {
+fn longer(s: &mut [u8], len: usize, dice: Dice) -> Length {
     if 1048576 < len {
-        return len;
+        return Length { len, dice };
     }
     let more = dice.thrown();
     let value = more.thrown();
     bytes::set(s, len + 1, len, value.shows(256));
-    len + 1 + more.shows(8) as usize
+    let long = len + 1 + more.shows(8) as usize;
+    Length {
+        len: long,
+        dice: value,
+    }
 }
 
-fn two_fields(s: &mut [u8], len: usize, dice: Dice) -> usize {
+fn two_fields(s: &mut [u8], len: usize, dice: Dice) -> Length {
     let place = dice.thrown();
+    let other = place.thrown();
     let first = field(place, len);
-    let second = field(place.thrown(), len);
+    let second = field(other, len);
     let was_first = bytes::two(s, len, first);
     let was_second = bytes::two(s, len, second);
     bytes::set_two(s, len, first, was_second);
     bytes::set_two(s, len, second, was_first);
-    len
+    Length { len, dice: other }
 }
 
-fn any_item(s: &mut [u8], len: usize, dice: Dice) -> usize {
+fn any_item(s: &mut [u8], len: usize, dice: Dice) -> Length {
     let items = bytes::two(s, len, 14);
     if items == 0 {
-        return len;
+        return Length { len, dice };
     }
     let classes = bytes::two(s, len, 6);
     let map = bytes::two(s, len, 22) as usize;
@@ -93,7 +106,7 @@ fn any_item(s: &mut [u8], len: usize, dice: Dice) -> usize {
     let class = item.thrown();
     let at = map + 2 * (item.shows(items) % 65536) as usize;
     bytes::set_two(s, len, at, class.shows(classes + 1));
-    len
+    Length { len, dice: class }
 }
 
 // ---- taken apart: part 0 classes, 1 rows, 2 class links, 3 map
@@ -111,6 +124,13 @@ pub fn parted(from: &[u8], to: &mut [u8], part: usize, j: usize, deed: usize) ->
     put_offset(to, part, 2, size, done);
     put_offset(to, part, 3, size, done);
     changed(len as u64, size as u64, done) as usize
+}
+
+// How many records a part has, as the header says.
+pub fn records(s: &[u8], part: usize) -> usize
+    ensures { λ r. ⌜ r < 65536 ⌝ }
+{
+    bytes::two(s, 24, count_place(part)) as usize
 }
 
 // Deed 3, which is nothing, in place of deed 2 at the last record.

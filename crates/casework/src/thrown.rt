@@ -6,14 +6,15 @@
 // below the count) becomes 1; 5, 6, 7 nothing.
 use crate::bytes;
 use crate::dice::Dice;
+use crate::dice::Length;
 ghost use Prim.Native.Nat.{_≤_, _<_};
 
 // A question under way in a buffer: how many entries it has, how many operands are still open, how long it is, the dice as they lie.
-pub struct Asking {
-    pub count: usize,
-    pub open: usize,
-    pub len: usize,
-    pub dice: Dice,
+struct Asking {
+    count: usize,
+    open: usize,
+    len: usize,
+    dice: Dice,
 }
 
 fn mark(throw: u64) -> u64
@@ -122,8 +123,14 @@ fn kind(throw: u64, count: usize, open: usize) -> u64 {
     }
 }
 
+// The question, and its length with the dice as they lie.
+pub fn question(b: &mut [u8], dice: Dice) -> Length {
+    let asking = whole(b, dice);
+    damaged(b, asking)
+}
+
 // The whole question: no question has more than 64 entries.
-pub fn whole(b: &mut [u8], dice: Dice) -> Asking {
+fn whole(b: &mut [u8], dice: Dice) -> Asking {
     let mut a = Asking {
         count: 0,
         open: 1,
@@ -143,44 +150,56 @@ fn further(b: &mut [u8], a: Asking) -> Asking {
     if a.open == 0 { a } else { entry(b, a) }
 }
 
-// The length of the question once it is damaged, or left whole.
-pub fn damaged(b: &mut [u8], a: Asking) -> usize {
-    let dice = a.dice.thrown();
-    let next = dice.thrown();
-    let kind = dice.shows(8);
-    match kind {
-        0 => any_byte(b, a.len, next),
-        1 => next.shows(a.len as u64 % 65536 + 1) as usize,
-        2 => longer(b, a, 4),
-        3 => longer(b, a, 1),
-        4 => third_byte(b, a, next),
-        _ => a.len,
+// The length of the question once it is damaged, or left whole, and the dice as they lie.
+fn damaged(b: &mut [u8], a: Asking) -> Length {
+    let kind = a.dice.thrown();
+    let len = a.len;
+    match kind.shows(8) {
+        0 => any_byte(b, len, kind),
+        1 => cut(len, kind),
+        2 => longer(b, a, 4, kind),
+        3 => longer(b, a, 1, kind),
+        4 => third_byte(b, a, kind),
+        _ => Length { len, dice: kind },
     }
 }
 
-fn any_byte(b: &mut [u8], len: usize, place: Dice) -> usize {
+fn any_byte(b: &mut [u8], len: usize, dice: Dice) -> Length {
     if len == 0 {
-        return len;
+        return Length { len, dice };
     }
+    let place = dice.thrown();
     let value = place.thrown();
     bytes::set(b, len, place.shows(len as u64) as usize, value.shows(256));
-    len
+    Length { len, dice: value }
 }
 
-fn longer(b: &mut [u8], a: Asking, by: usize) -> usize
+fn cut(len: usize, dice: Dice) -> Length {
+    let place = dice.thrown();
+    let short = place.shows(len as u64 % 65536 + 1) as usize;
+    Length {
+        len: short,
+        dice: place,
+    }
+}
+
+fn longer(b: &mut [u8], a: Asking, by: usize, dice: Dice) -> Length
     requires { ⌜ by ≤ 4 ⌝ }
 {
     put_entry(b, a.count, 0, 0);
-    a.len % 65536 + by
+    let long = a.len % 65536 + by;
+    Length { len: long, dice }
 }
 
-fn third_byte(b: &mut [u8], a: Asking, place: Dice) -> usize {
+fn third_byte(b: &mut [u8], a: Asking, dice: Dice) -> Length {
+    let len = a.len;
     if a.count == 0 {
-        return a.len;
+        return Length { len, dice };
     }
+    let place = dice.thrown();
     let at = place.shows(a.count as u64) as usize;
     if at < 65536 {
-        bytes::set(b, a.len, 4 * at + 2, 1);
+        bytes::set(b, len, 4 * at + 2, 1);
     }
-    a.len
+    Length { len, dice: place }
 }

@@ -16,7 +16,7 @@ pub fn letter(said: Said) -> u8 {
 }
 
 // The answer to the first `q_len` bytes of q, on the first `len` bytes of b.
-fn answer(b: &[u8], len: usize, q: &[u8], q_len: usize, item: u16) -> u8 {
+pub fn answer(b: &[u8], len: usize, q: &[u8], q_len: usize, item: u16) -> u8 {
     if b.len() < len {
         return b'?';
     }
@@ -126,7 +126,7 @@ fn marked(b: &mut [u8]) {
 }
 
 // The answers at the first `items` items.
-fn at_items(line: Line, b: &[u8], len: usize, q: &[u8], q_len: usize, items: usize) -> Line {
+pub fn at_items(line: Line, b: &[u8], len: usize, q: &[u8], q_len: usize, items: usize) -> Line {
     let mut told = line;
     let mut x = 0;
     while x < items {
@@ -165,7 +165,7 @@ fn of_entries(count: usize) {
 }
 
 // `count` entries: nots, and a true at the end.
-fn put_nots(q: &mut [u8], count: usize) {
+pub fn put_nots(q: &mut [u8], count: usize) {
     let mut k = 1;
     while k < count {
         thrown::put_entry(q, k - 1, 2, 0);
@@ -287,14 +287,9 @@ fn of_seed(seed: u64) {
     let mut b = [0u8; 2048];
     let made = made::small(&mut b, seed);
     let mut q = [0u8; 300];
-    let len = question_of(&mut q, made);
+    let asked = thrown::question(&mut q, made.dice);
     let line = Line::new().word(b"asked").number(seed).word(b"");
-    at_items(line, &b, made.len, &q, len, made.items % 65536 + 1).print();
-}
-
-fn question_of(q: &mut [u8], made: made::Made) -> usize {
-    let asking = thrown::whole(q, made.dice);
-    thrown::damaged(q, asking)
+    at_items(line, &b, made.len, &q, asked.len, made.items % 65536 + 1).print();
 }
 
 // ---- `around W L`: every threshold by every label, each way, at an item whose neighbours by label l number one more than l mod 9

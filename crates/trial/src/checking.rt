@@ -14,7 +14,7 @@ use casework::spoilt;
 use condense::Wrote;
 
 // The answer to the first `s_len` bytes of s, against the first `len` bytes of b.
-fn answer(b: &[u8], len: usize, s: &[u8], s_len: usize) -> u8 {
+pub fn answer(b: &[u8], len: usize, s: &[u8], s_len: usize) -> u8 {
     if b.len() < len {
         return b'?';
     }
@@ -25,7 +25,7 @@ fn answer(b: &[u8], len: usize, s: &[u8], s_len: usize) -> u8 {
 }
 
 // Against register A (0), A with item 5 passed (1), or the empty register.
-fn against(which: usize, s: &[u8], s_len: usize) -> u8 {
+pub fn against(which: usize, s: &[u8], s_len: usize) -> u8 {
     let mut b = [0u8; 54];
     let len = put_register(&mut b, which);
     answer(&b, len, s, s_len)
@@ -55,7 +55,7 @@ fn both(line: Line, s: &[u8], s_len: usize) -> Line {
 }
 
 // The summary of the first `len` bytes of b, and its length, 0 where it was refused.
-fn summary(b: &[u8], len: usize, caps: Caps, s: &mut [u8]) -> usize {
+pub fn summary(b: &[u8], len: usize, caps: Caps, s: &mut [u8]) -> usize {
     let end = condensing::within(len, b.len());
     let wrote = hestovane::condense(&b[0..end], caps.i, caps.mu, caps.nu, s);
     match wrote {
@@ -65,7 +65,7 @@ fn summary(b: &[u8], len: usize, caps: Caps, s: &mut [u8]) -> usize {
 }
 
 // The summary of register A at 1 1 1: 112 bytes.
-fn summary_a(s: &mut [u8]) {
+pub fn summary_a(s: &mut [u8]) {
     let mut b = [0u8; 54];
     condensing::register_a(&mut b);
     summary(&b, 54, Caps::of(1, 1, 1), s);
@@ -267,7 +267,8 @@ fn checked(line: Line, b: &[u8], made: Made, other: u64) -> Line {
 
 fn spoilt_summary(b: &[u8], made: Made, s: &mut [u8]) -> usize {
     let length = summary(b, made.len, Caps::thrown(made.dice), s);
-    spoilt::spoilt(s, length, made.dice.thrown().thrown().thrown())
+    let now = spoilt::spoilt(s, length, made.dice.thrown().thrown().thrown());
+    now.len
 }
 
 fn on_other(seed: u64, s: &[u8], s_len: usize) -> u8 {

@@ -48,15 +48,15 @@ impl Caps {
     }
 }
 
-// What condensing gave, and the hash of the lent buffer after it.
-struct Answer {
-    wrote: Wrote,
-    hash: u64,
+// What condensing or listing gave, and the hash of the lent buffer after it.
+pub struct Answer {
+    pub wrote: Wrote,
+    pub hash: u64,
 }
 
 impl Answer {
     // The length written, 0 where it was refused.
-    fn length(self) -> usize {
+    pub fn length(self) -> usize {
         let wrote = self.wrote;
         match wrote {
             Wrote::Length(length) => length,
@@ -64,7 +64,7 @@ impl Answer {
         }
     }
 
-    fn told(self, line: Line) -> Line {
+    pub fn told(self, line: Line) -> Line {
         let wrote = self.wrote;
         match wrote {
             Wrote::Length(length) => line.word(b"wrote").number(length as u64).number(self.hash),
@@ -76,7 +76,7 @@ impl Answer {
 }
 
 // The first `len` bytes of b condensed into a buffer of `room` bytes.
-fn condensed(b: &[u8], len: usize, caps: Caps, room: usize) -> Answer {
+pub fn condensed(b: &[u8], len: usize, caps: Caps, room: usize) -> Answer {
     let mut out = [0u8; 55328];
     let end = within(len, b.len());
     let most = within(room, 55328);
@@ -112,7 +112,7 @@ fn on_a(family: &[u8], caps: Caps) {
     condensed_a(caps, 200).told(line).print();
 }
 
-fn condensed_a(caps: Caps, room: usize) -> Answer {
+pub fn condensed_a(caps: Caps, room: usize) -> Answer {
     let mut b = [0u8; 54];
     register_a(&mut b);
     condensed(&b, 54, caps, room)

@@ -3,9 +3,25 @@
 mod asking;
 mod checking;
 mod condensing;
+mod five;
 mod judging;
+mod limits;
+mod listing;
+mod wrecking;
 
 fn main() {
+    registers();
+    summaries();
+    lists();
+    limits::limited();
+    limits::vasts();
+    limits::lengthies();
+    limits::levels();
+    five::fives();
+}
+
+// A register judged and asked.
+fn registers() {
     judging::lengths();
     judging::limits();
     judging::faults();
@@ -19,6 +35,10 @@ fn main() {
     asking::orders();
     asking::seeded();
     asking::around();
+}
+
+// A register condensed, and a proposed summary checked.
+fn summaries() {
     condensing::ranges();
     condensing::wides();
     condensing::rooms();
@@ -34,4 +54,16 @@ fn main() {
     checking::parts();
     checking::proposals();
     checking::seeded();
+    wrecking::wrecks();
+}
+
+// A summary asked and listed from.
+fn lists() {
+    listing::orders();
+    listing::threes();
+    listing::reaches();
+    listing::counts();
+    listing::foreigns();
+    listing::rooms();
+    listing::seeded();
 }

@@ -3,12 +3,12 @@
 
 use super::*;
 use crate::bytes::two_at;
-use crate::checking::{self, spoil};
-use crate::condensing::thrown_level_and_caps;
-use crate::generator::{seeded_register, Dice};
+use crate::checking;
+use crate::generator::{seeded_register, thrown_level_and_caps, Dice};
 use crate::numbers::{Class, Group};
 use crate::proposed::PROPOSED;
 use crate::shapes::{empty_register, register_b};
+use crate::summary_generator::spoil;
 use std::collections::BTreeSet;
 use std::sync::LazyLock;
 

@@ -2,8 +2,9 @@
 //! from, the answers that are known without condensing, and what becomes of the lent buffer.
 
 use super::*;
-use crate::condensing::{self, filled_buffer, hash};
+use crate::condensing::{self, hash};
 use crate::generator::Dice;
+use crate::lent::filled_buffer;
 use crate::shapes::{self, labelled_register, SHAPES};
 use std::collections::BTreeSet;
 use std::sync::LazyLock;

@@ -5,6 +5,7 @@ use super::*;
 use crate::cases::paired_register;
 use crate::check::check;
 use crate::generator::{large_register, Dice};
+use crate::program;
 
 #[test]
 fn items_1024_and_1025() {
@@ -131,4 +132,15 @@ fn large_registers_answer_alike() {
         let here = pairs.contains(&&two_bytes_each(&[item.0])[..]);
         assert_eq!(ask_register(&large, &question, item), Ok(here));
     }
+}
+
+/// "At most 16,403 bytes are read", so that what stands behind them stays to be read.
+#[test]
+fn the_program_reads_16403_bytes_and_no_more() {
+    let most = paired_register(1_024, 2_048).write();
+    let input = [two_bytes_each(&[1, 1, 1]), most, vec![0; 100]].concat();
+    let (mut unread, mut out) = (&input[..], Vec::new());
+    program::run(&mut unread, &mut out).expect("a vector takes every byte");
+    assert_eq!(input.len() - unread.len(), 16_403);
+    assert_eq!(out, b"refused 1\n");
 }

@@ -1,0 +1,34 @@
+-- The loop ends.
+use Prim.Native.Nat.{_-_, _≤_}
+use borrow.Author.Needs.{needs}
+use Rattle.trial.proofs.listing.orders.Statement.{statement}
+use Rattle.trial.proofs.listing.orders.Tie as tie
+
+abbrev Inv-loop : tie.InvT-loop
+Inv-loop c₀ c = c ≤ 8
+
+abbrev μ-loop : tie.MeasureT-loop
+μ-loop c₀ c = 8 - c
+
+loop-holds : tie.Need-loop-holds Inv-loop μ-loop
+loop-holds c = search needs
+
+order-requires : tie.Need-order-requires Inv-loop μ-loop
+order-requires c κs = search needs
+
+add-c : tie.Need-add-c Inv-loop μ-loop
+add-c c = search needs
+
+loop-less : tie.Need-loop-less Inv-loop μ-loop
+loop-less c = search needs
+
+loop-again : tie.Need-loop-again Inv-loop μ-loop
+loop-again c = search needs
+
+returns : tie.Need-returns Inv-loop μ-loop
+returns c = search needs
+
+pub orders-spec : {M : Type 1} → statement M
+orders-spec =
+    tie.close
+    (tie.spec Inv-loop μ-loop loop-holds order-requires add-c loop-less loop-again returns)
