@@ -1,6 +1,6 @@
 -- One answer only, over the contracts of the five calls as they stand in src/lib.rt: "that two results allowed by it coincide is proved".
 -- Two results that a call's contract allows for the same input are the same value, and so is every byte of a lent buffer. Leans on
--- promise's OneAnswer, which says the same of what is handed back in document 01's numbers.
+-- promise's OneAnswer: a number is one refusal's only.
 use mathlib.Core.Path.{_≡_, refl, sym, ap, _∙_}
 use mathlib.Core.Bool.{Bool, true, false}
 use mathlib.Core.List.{List}
