@@ -2,18 +2,18 @@
 -- tree that stands at an entry, and on Window.
 use mathlib.Core.Path.{_≡_, refl, sym, ap, ap₂, subst, _∙_}
 use mathlib.Core.Bool.{Bool, true, false, not, cond, _&&_, _||_}
-use mathlib.Core.Logic.{inl, inr, ⊎-elim}
+use mathlib.Core.Logic.{_⊎_, inl, inr, ⊎-elim}
 use mathlib.Core.List.{List, [], _∷_}
 use mathlib.Core.Option.{some}
 use Prim.Native.Nat.{ℕ, suc, _+_, _-_, _*_, _≤_, _<_}
 use native.Mathlib.Omega.{arith}
-use borrow.Author.Tests.{leb-true}
+use borrow.Author.Tests.{leb-true, ltb-true, ltb-false, lt-ltb, le-ltb}
 use types.Run.{OneOf}
 use denote.Enum.Declared.{tagOf}
-use lib.Dec.{leb, ltb}
+use lib.Dec.{leb, ltb, eqb}
 use lib.IntN.{ℤ}
-use lib.ListN.{length, getD, set}
-use lib.Seq.{getD-set-same, getD-set-other}
+use lib.ListN.{length, getD, set, replicate, length-set, length-replicate, getD-replicate, List·getD-eq-default}
+use lib.Seq.{getD-set-same, getD-set-other, set-out}
 use Rattle.meaning.specs.Count.{sum}
 use Rattle.meaning.specs.declared.Direction.{Direction}
 use Rattle.meaning.specs.declared.Kind.{Kind}
@@ -24,7 +24,7 @@ use Rattle.meaning.specs.Summary.{Row, Summary, noRow, classOf, rowOf, lowestCl
 use Rattle.meaning.specs.WellFormed.{within, rowIn, numbers, wellFormed}
 use Rattle.files.specs.SummaryFile.{summaryIn}
 use Rattle.files.specs.declared.Refusal.{Refusal}
-use Rattle.theory.proofs.CountLaws.{by-eq, and-inv, each-every, every-at}
+use Rattle.theory.proofs.CountLaws.{by-bool, by-eq, and-inv, each-every, every-at}
 use Rattle.theory.proofs.ShapeLaws.{well-parts, number-parts}
 use Rattle.question.specs.declared.Asked.{Asked}
 use Rattle.question.specs.declared.Asked.the-variants.{Said, Refused as NotSaid}
@@ -40,7 +40,7 @@ use Rattle.wellformed.proofs.Laws.{well-file, sized-file, groups-file}
 use Rattle.wellformed.proofs.Match.{row-at}
 use Rattle.consult.specs.declared.Counted.{Counted}
 use Rattle.consult.specs.declared.Counted.the-variants.{Sum}
-use Rattle.consult.specs.Consulted.{Consulted, Own, adds, Holds, Counts, Answers, turned, any, decides, reached}
+use Rattle.consult.specs.Consulted.{Consulted, Own, adds, Holds, Counts, Answers, turned, any, decides, reached, Remembers, tell, slot, kept}
 use Rattle.consult.proofs.Lowest.{lowest-below}
 use Rattle.consult.proofs.Window.{counted-own}
 
@@ -202,14 +202,78 @@ module _ (s keys lowest : List ℕ) (w : Consulted s keys lowest) (j : ℕ) (h :
   added-most low n m true u f g = omega (arith, count-most, g)
   added-most low n m false u f g = omega arith
 
-  pub group-below : (g : ℕ) → g ≡ (rowOf S j) .group → g < length lowest
-  group-below g e = omega (arith, e, row-at S numbered j h .2, groups-file s (w .well), w .lowest-long)
+  pub row-grouped : (g : ℕ) → g ≡ (rowOf S j) .group → g < S .groups
+  row-grouped g e = omega (arith, e, row-at S numbered j h .2)
 
-  pub lowest-asked : (g x : ℕ) → g ≡ (rowOf S j) .group → x ≡ getD lowest g 0 → (x ≡ lowestClass S ((rowOf S j) .group)) × (x < length (S .classes))
-  lowest-asked g x e f =
-      let low = row-at S numbered j h .2 in
-      let same : x ≡ lowestClass S ((rowOf S j) .group) = f ∙ ap (λ (g : ℕ). getD lowest g 0) e ∙ w .lowest-are ((rowOf S j) .group) low in
-      (same, rw same (lowest-below S well ((rowOf S j) .group) low))
+-- of group g: there are at most 1,024, and its lowest class is a class
+module _ (s keys lowest : List ℕ) (w : Consulted s keys lowest) (g : ℕ) (h : g < summaryIn s .groups) where
+  pub group-few : (g < 1024) × (g < length lowest)
+  group-few = (omega (arith, groups-file s (w .well)), omega (arith, groups-file s (w .well), w .lowest-long))
+
+  pub lowest-asked : (x : ℕ) → x ≡ getD lowest g 0 → (x ≡ lowestClass (summaryIn s) g) × (x < length (summaryIn s .classes))
+  lowest-asked x f =
+      let same : x ≡ lowestClass (summaryIn s) g = f ∙ w .lowest-are g h in
+      (same, rw same (lowest-below (summaryIn s) (well-file s (w .well) .1) g h))
+
+-- ---- what is kept of groups
+
+by-lt : {P : Type 0} (a b : ℕ) → (a < b → P) → (b ≤ a → P) → P
+by-lt a b f g = by-bool (ltb a b) (λ e. f (ltb-true a b e)) (λ e. g (ltb-false a b e))
+
+two-or-one : (b : Bool) → eqb (tell b) 2 ≡ b
+two-or-one true = refl
+two-or-one false = refl
+
+zeros : (n j : ℕ) → _≡_ {A = ℕ} (getD (replicate n 0) j 0) 0
+zeros n j = by-lt j n (getD-replicate {A = ℕ} n j 0 0) (λ h. List·getD-eq-default (replicate n 0) 0 (omega (arith, h, length-replicate {A = ℕ} n 0)))
+
+pub remembers-none : (q : List ℕ) (S : Summary) (n : ℕ) → n ≤ 65536 → Remembers q S (replicate n 0)
+remembers-none q S n h = record { short = omega (arith, h, length-replicate {A = ℕ} n 0); so = λ i g u v t k p. inl (zeros n (1024 * i + g)) }
+
+module _ (q : List ℕ) (S : Summary) (known : List ℕ) (r : Remembers q S known) (i g : ℕ) (v : g < 1024) where
+  -- what was kept is the answer
+  pub recalled-holds : (told : ℕ) → told ≡ getD known (slot i g) 0 → (told ≡ 0 → ⊥) → Holds q i S (lowestClass S g) (Said (eqb told 2))
+  recalled-holds told e f t k p = by-lt i 64 inside outside
+    where
+      inside : i < 64 → Said (eqb told 2) ≡ Said (holdsAt S t (lowestClass S g))
+      inside u =
+          let e′ : told ≡ getD known (1024 * i + g) 0 = e ∙ ap (λ (b : Bool). getD known (cond b (1024 * i + g) 65536) 0) (lt-ltb i 64 u) in
+          ⊎-elim (λ z. absurd (f (e′ ∙ z))) (λ z. ap (λ (b : Bool). Said b) (ap (λ (n : ℕ). eqb n 2) (e′ ∙ z) ∙ two-or-one (holdsAt S t (lowestClass S g)))) (r .so i g u v t k p)
+
+      outside : 64 ≤ i → Said (eqb told 2) ≡ Said (holdsAt S t (lowestClass S g))
+      outside u =
+          let e′ : told ≡ getD known 65536 0 = e ∙ ap (λ (b : Bool). getD known (cond b (1024 * i + g) 65536) 0) (le-ltb i 64 u) in
+          absurd (f (e′ ∙ List·getD-eq-default known 0 (r .short)))
+
+  -- and an answer may be kept
+  pub remembers-kept : (a : Asked) → Holds q i S (lowestClass S g) a → Remembers q S (kept known (slot i g) a)
+  remembers-kept (NotSaid e) holds = r
+  remembers-kept (Said b) holds = record { short = simp length-set (r .short); so = λ j h u x t k p. by-lt i 64 (inside j h u x t k p) (outside j h u x t k p) }
+    where
+      Kept : ℕ → ℕ → Question → Type 0
+      Kept j h t = (getD (set known (slot i g) (tell b)) (1024 * j + h) 0 ≡ 0) ⊎ (getD (set known (slot i g) (tell b)) (1024 * j + h) 0 ≡ tell (holdsAt S t (lowestClass S h)))
+
+      other : (j h : ℕ) → j < 64 → h < 1024 → (t : Question) (k : ℕ) → Parsed q j t k → getD (set known (slot i g) (tell b)) (1024 * j + h) 0 ≡ getD known (1024 * j + h) 0 → Kept j h t
+      other j h u x t k p e = ⊎-elim (λ z. inl (e ∙ z)) (λ z. inr (e ∙ z)) (r .so j h u x t k p)
+
+      outside : (j h : ℕ) → j < 64 → h < 1024 → (t : Question) (k : ℕ) → Parsed q j t k → 64 ≤ i → Kept j h t
+      outside j h u x t k p w =
+          let e : slot i g ≡ 65536 = ap (λ (c : Bool). cond c (1024 * i + g) 65536) (le-ltb i 64 w) in
+          other j h u x t k p (ap (λ (l : List ℕ). getD l (1024 * j + h) 0) (set-out known (slot i g) (tell b) (omega (arith, e, r .short))))
+
+      here : (j h : ℕ) (t : Question) (k : ℕ) → Parsed q j t k → j ≡ i → h ≡ g → getD (set known (slot i g) (tell b)) (1024 * j + h) 0 ≡ tell b → Kept j h t
+      here j h t k p e f z =
+          let said : b ≡ holdsAt S t (lowestClass S g) = said-one (Said b) b _ refl (holds t k (subst (λ (n : ℕ). Parsed q n t k) e p)) in
+          inr (z ∙ ap tell (said ∙ ap (λ (n : ℕ). holdsAt S t (lowestClass S n)) (sym f)))
+
+      inside : (j h : ℕ) → j < 64 → h < 1024 → (t : Question) (k : ℕ) → Parsed q j t k → i < 64 → Kept j h t
+      inside j h u x t k p w =
+          let e : slot i g ≡ 1024 * i + g = ap (λ (c : Bool). cond c (1024 * i + g) 65536) (lt-ltb i 64 w) in
+          by-eq (1024 * j + h) (slot i g)
+          (λ z. by-lt (slot i g) (length known)
+          (λ y. here j h t k p (omega (arith, z, e)) (omega (arith, z, e)) (ap (λ (m : ℕ). getD (set known (slot i g) (tell b)) m 0) z ∙ getD-set-same known (slot i g) (tell b) 0 y))
+          (λ y. other j h u x t k p (ap (λ (l : List ℕ). getD l (1024 * j + h) 0) (set-out known (slot i g) (tell b) y))))
+          (λ z. other j h u x t k p (getD-set-other known (slot i g) (1024 * j + h) (tell b) 0 z))
 
 -- ---- the classes, one after another
 

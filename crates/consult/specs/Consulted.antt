@@ -1,11 +1,12 @@
 -- What is at hand where a question is asked of a summary, which rows are a class's own in a direction and label, what a row adds to a count
 -- of neighbours, and what the answers say. Leans on meaning's Summary, on question's trees and on wellformed's Keys.
-use Prim.Native.Nat.{ℕ, _+_, _-_, _≤_, _<_}
+use Prim.Native.Nat.{ℕ, _+_, _-_, _*_, _≤_, _<_}
 use mathlib.Core.Path.{_≡_}
 use mathlib.Core.Bool.{Bool, true, false, not, cond}
 use mathlib.Core.List.{List}
-use lib.Dec.{leb}
-use lib.ListN.{length, getD}
+use mathlib.Core.Logic.{_⊎_}
+use lib.Dec.{leb, ltb}
+use lib.ListN.{length, getD, set}
 use Rattle.meaning.specs.Count.{sum}
 use Rattle.meaning.specs.declared.Direction.{Direction}
 use Rattle.meaning.specs.declared.Kind.{Kind}
@@ -78,3 +79,23 @@ decides k (NotSaid r) = true
 abbrev pub reached : ℕ → Counted → Asked
 reached t (Sum n) = Said (leb t n)
 reached t (Refused r) = NotSaid Malformation
+
+-- ---- what is kept of groups: 0 for not known, 1 for no, 2 for yes
+
+abbrev pub tell : Bool → ℕ
+tell true = 2
+tell false = 1
+
+-- where it is kept what the tree at entry i says at group g
+abbrev pub slot : ℕ → ℕ → ℕ
+slot i g = cond (ltb i 64) (1024 * i + g) 65536
+
+abbrev pub kept : List ℕ → ℕ → Asked → List ℕ
+kept known j (Said b) = set known j (tell b)
+kept known j (NotSaid r) = known
+
+-- what is known is so
+pub record Remembers (q : List ℕ) (S : Summary) (known : List ℕ) : Type 0 where
+  pub short : length known ≤ 65536
+  pub so : (i g : ℕ) → i < 64 → g < 1024 → (t : Question) (k : ℕ) → Parsed q i t k →
+      (getD known (1024 * i + g) 0 ≡ 0) ⊎ (getD known (1024 * i + g) 0 ≡ tell (holdsAt S t (lowestClass S g)))

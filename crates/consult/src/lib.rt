@@ -17,7 +17,7 @@ ghost use Rattle.meaning.specs.Summary.{lowestClass};
 ghost use Rattle.meaning.specs.WellFormed as meant;
 ghost use Rattle.files.specs.SummaryFile.{summaryIn, wellFormedFile};
 ghost use Rattle.wellformed.specs.Keys.{Keyed};
-ghost use Rattle.consult.specs.Consulted.{Consulted, Own, Holds, Counts, Answers};
+ghost use Rattle.consult.specs.Consulted.{Consulted, Own, Holds, Counts, Answers, Remembers, tell, slot, kept};
 ghost use Rattle.consult.specs.Consulted as consulted;
 
 // A count of neighbours.
@@ -78,35 +78,52 @@ fn rows_of(s: &[u8], keys: &[u64], class: Class, direction: Direction, label: u8
     Rows { low, high }
 }
 
-// Whether the question holds at the class.
-pub fn ask(q: &[u8], s: &[u8], keys: &[u64], class: Class) -> Asked
+// Whether the question, which has that depth, holds at the class. Where no at-least stands inside another, nothing is worth keeping.
+pub fn ask(q: &[u8], depth: usize, s: &[u8], keys: &[u64], class: Class) -> Asked
     requires { ⌜ (wellFormedFile (now s) ≡ true) × (length (now keys) ≡ 4096) × Keyed true (summaryIn (now s)) (now keys) × (class .0 < length (summaryIn (now s) .classes)) ⌝ }
     ensures { λ r. ⌜ Holds (now (q .entry)) 0 (summaryIn (now (s .entry))) (class .0) r ⌝ }
 {
     let mut lowest = [0u16; 1024];
     put_lowest(s, &mut lowest);
-    holds(q, 0, s, keys, &lowest, class)
+    if depth < 2 {
+        let mut nothing = [0u8; 1];
+        return holds(q, 0, s, keys, &lowest, &mut nothing, class);
+    }
+    let mut known = [0u8; 65536];
+    holds(q, 0, s, keys, &lowest, &mut known, class)
 }
 
-// Whether the question holds at each class: "A question at an item of a summary is asked at its mapped class", so each class is asked once.
-pub fn put_answers(q: &[u8], s: &[u8], keys: &[u64], answers: &mut [bool]) -> Filled
+// Whether it holds at each class: "A question at an item of a summary is asked at its mapped class", so each class is asked once.
+pub fn put_answers(q: &[u8], depth: usize, s: &[u8], keys: &[u64], answers: &mut [bool]) -> Filled
     requires { ⌜ (wellFormedFile (now s) ≡ true) × (length (now keys) ≡ 4096) × Keyed true (summaryIn (now s)) (now keys) × (length (now answers) ≡ 1024) ⌝ }
     ensures { λ r. ⌜ Answers (now (q .entry)) (summaryIn (now (s .entry))) r (now (answers .exit)) ⌝ }
 {
     let mut lowest = [0u16; 1024];
     put_lowest(s, &mut lowest);
-    put_each(q, s, keys, &lowest, answers)
+    if depth < 2 {
+        let mut nothing = [0u8; 1];
+        return put_each(q, s, keys, &lowest, &mut nothing, answers);
+    }
+    let mut known = [0u8; 65536];
+    put_each(q, s, keys, &lowest, &mut known, answers)
 }
 
 // Class by class.
-fn put_each(q: &[u8], s: &[u8], keys: &[u64], lowest: &[u16], answers: &mut [bool]) -> Filled
-    requires { ⌜ Consulted (now s) (now keys) (now lowest) × (length (now answers) ≡ 1024) ⌝ }
+fn put_each(
+    q: &[u8],
+    s: &[u8],
+    keys: &[u64],
+    lowest: &[u16],
+    known: &mut [u8],
+    answers: &mut [bool],
+) -> Filled
+    requires { ⌜ Consulted (now s) (now keys) (now lowest) × Remembers (now q) (summaryIn (now s)) (now known) × (length (now answers) ≡ 1024) ⌝ }
     ensures { λ r. ⌜ Answers (now (q .entry)) (summaryIn (now (s .entry))) r (now (answers .exit)) ⌝ }
 {
     let c = reader::classes(s);
     let mut k = 0;
     while k < c {
-        let Asked::Said(yes) = holds(q, 0, s, keys, lowest, Class(k as u16)) else {
+        let Asked::Said(yes) = holds(q, 0, s, keys, lowest, known, Class(k as u16)) else {
             return Filled::Refused(Refusal::Question);
         };
         answers[k] = yes;
@@ -116,9 +133,18 @@ fn put_each(q: &[u8], s: &[u8], keys: &[u64], lowest: &[u16], answers: &mut [boo
 }
 
 // Whether the tree at entry `at` holds at the class.
-fn holds(q: &[u8], at: usize, s: &[u8], keys: &[u64], lowest: &[u16], class: Class) -> Asked
-    requires { ⌜ Consulted (now s) (now keys) (now lowest) × (class .0 < length (summaryIn (now s) .classes)) ⌝ }
+fn holds(
+    q: &[u8],
+    at: usize,
+    s: &[u8],
+    keys: &[u64],
+    lowest: &[u16],
+    known: &mut [u8],
+    class: Class,
+) -> Asked
+    requires { ⌜ Consulted (now s) (now keys) (now lowest) × Remembers (now q) (summaryIn (now s)) (now known) × (class .0 < length (summaryIn (now s) .classes)) ⌝ }
     ensures { λ r. ⌜ Holds (now (q .entry)) at (summaryIn (now (s .entry))) (class .0) r ⌝ }
+    ensures known { λ _. ⌜ Remembers (now (q .entry)) (summaryIn (now (s .entry))) (now (known .exit)) ⌝ }
 {
     let Reading::Entry(kind) = question::entry(q, at) else {
         return Asked::Refused(Refusal::Question);
@@ -126,9 +152,9 @@ fn holds(q: &[u8], at: usize, s: &[u8], keys: &[u64], lowest: &[u16], class: Cla
     match kind {
         Kind::True => Asked::Said(true),
         Kind::Literal(literal) => Asked::Said(question::shows(reader::marks(s, class), literal)),
-        Kind::Not => turned(holds(q, at + 1, s, keys, lowest, class)),
+        Kind::Not => turned(holds(q, at + 1, s, keys, lowest, known, class)),
         Kind::And | Kind::Or => {
-            let first = holds(q, at + 1, s, keys, lowest, class);
+            let first = holds(q, at + 1, s, keys, lowest, known, class);
             if decides(kind, first) {
                 return first;
             }
@@ -140,7 +166,7 @@ fn holds(q: &[u8], at: usize, s: &[u8], keys: &[u64], lowest: &[u16], class: Cla
             else {
                 return Asked::Refused(Refusal::Question);
             };
-            holds(q, next, s, keys, lowest, class)
+            holds(q, next, s, keys, lowest, known, class)
         }
         Kind::AtLeast {
             direction,
@@ -148,7 +174,7 @@ fn holds(q: &[u8], at: usize, s: &[u8], keys: &[u64], lowest: &[u16], class: Cla
             threshold,
         } => {
             let own = rows_of(s, keys, class, direction, label);
-            let count = neighbour_count(q, at + 1, s, keys, lowest, own.low, own.high);
+            let count = neighbour_count(q, at + 1, s, keys, lowest, known, own.low, own.high);
             reached(threshold, count)
         }
     }
@@ -162,23 +188,86 @@ fn neighbour_count(
     s: &[u8],
     keys: &[u64],
     lowest: &[u16],
+    known: &mut [u8],
     low: usize,
     high: usize,
 ) -> Counted
-    requires { ⌜ Consulted (now s) (now keys) (now lowest) × (low ≤ high) × (high ≤ length (summaryIn (now s) .rows)) ⌝ }
+    requires { ⌜ Consulted (now s) (now keys) (now lowest) × Remembers (now q) (summaryIn (now s)) (now known) × (low ≤ high) × (high ≤ length (summaryIn (now s) .rows)) ⌝ }
     ensures { λ r. ⌜ Counts (now (q .entry)) at (summaryIn (now (s .entry))) low high r ⌝ }
+    ensures known { λ _. ⌜ Remembers (now (q .entry)) (summaryIn (now (s .entry))) (now (known .exit)) ⌝ }
 {
     let mut sum = 0;
     let mut row = low;
     while row < high {
-        let asked = lowest_of(lowest, reader::row_group(s, row));
-        let Asked::Said(yes) = holds(q, at, s, keys, lowest, asked) else {
+        let group = reader::row_group(s, row);
+        let Asked::Said(yes) = group_holds(q, at, s, keys, lowest, known, group) else {
             return Counted::Refused(Refusal::Question);
         };
         sum = added(sum, yes, reader::row_count(s, row));
         row += 1;
     }
     Counted::Sum(sum)
+}
+
+// "an operand holds at a group when it holds at the group's lowest-numbered class": worked out once for each entry and group, so that rows
+// that lead to one group from many sides cost no more.
+fn group_holds(
+    q: &[u8],
+    at: usize,
+    s: &[u8],
+    keys: &[u64],
+    lowest: &[u16],
+    known: &mut [u8],
+    group: Group,
+) -> Asked
+    requires { ⌜ Consulted (now s) (now keys) (now lowest) × Remembers (now q) (summaryIn (now s)) (now known) × (group .0 < summaryIn (now s) .groups) ⌝ }
+    ensures { λ r. ⌜ Holds (now (q .entry)) at (summaryIn (now (s .entry))) (lowestClass (summaryIn (now (s .entry))) (group .0)) r ⌝ }
+    ensures known { λ _. ⌜ Remembers (now (q .entry)) (summaryIn (now (s .entry))) (now (known .exit)) ⌝ }
+{
+    let slot = slot_of(at, group);
+    let told = recalled(known, slot);
+    if told != 0 {
+        return Asked::Said(told == 2);
+    }
+    let answer = holds(q, at, s, keys, lowest, known, lowest_of(lowest, group));
+    remember(known, slot, answer);
+    answer
+}
+
+// Where it is kept what holds at the group; beyond entry 63 nothing is.
+fn slot_of(at: usize, group: Group) -> usize
+    requires { ⌜ group .0 < 1024 ⌝ }
+    ensures { λ r. ⌜ r ≡ slot at (group .0) ⌝ }
+{
+    if at < 64 {
+        1024 * at + group.index()
+    } else {
+        65536
+    }
+}
+
+// 0 for not known, 1 for no, 2 for yes.
+fn recalled(known: &[u8], slot: usize) -> u8
+    ensures { λ r. ⌜ r ≡ getD (now (known .entry)) slot 0 ⌝ }
+{
+    if slot < known.len() { known[slot] } else { 0 }
+}
+
+fn remember(known: &mut [u8], slot: usize, answer: Asked)
+    ensures { λ _. ⌜ now (known .exit) ≡ kept (now (known .entry)) slot answer ⌝ }
+{
+    let Asked::Said(yes) = answer else {
+        return;
+    };
+    if slot < known.len() {
+        known[slot] = code_of(yes);
+    }
+}
+
+fn code_of(yes: bool) -> u8
+    ensures { λ r. ⌜ r ≡ tell yes ⌝ }
+{
+    if yes { 2 } else { 1 }
 }
 
 // The row's count, where the operand holds.

@@ -150,7 +150,7 @@ fn ask_read(s: &[u8], keys: &[u64], q: &[u8], depth: usize, threshold: usize, it
     if reader::items(s) <= item as usize {
         return Said::Refused(Refusal::Item);
     }
-    let Asked::Said(yes) = consult::ask(q, s, keys, reader::class_of(s, Item(item))) else {
+    let Asked::Said(yes) = consult::ask(q, depth, s, keys, reader::class_of(s, Item(item))) else {
         return Said::Refused(Refusal::Question);
     };
     spoken(yes)
@@ -189,7 +189,7 @@ fn list_read(
         return Wrote::Refused(Refusal::Beyond);
     }
     let mut answers = [false; 1024];
-    let Filled::Done = consult::put_answers(q, s, keys, &mut answers) else {
+    let Filled::Done = consult::put_answers(q, depth, s, keys, &mut answers) else {
         return Wrote::Refused(Refusal::Question);
     };
     let mut named = [0u16; 1024];

@@ -5,28 +5,30 @@ use Prim.Native.Nat.{_-_, _≤_, _<_}
 use lib.ListN.{length, length-set}
 use Rattle.files.specs.SummaryFile.{summaryIn}
 use Rattle.wellformed.proofs.Laws.{well-file, sized-file}
+use Rattle.consult.specs.Consulted.{Remembers}
 use Rattle.consult.proofs.Laws.{Answered, one-answered, not-answered}
 use borrow.Author.Needs.{needs}
 use Rattle.consult.proofs.put_each.Statement.{statement}
 use Rattle.consult.proofs.put_each.Tie as tie
 
 abbrev Inv-loop : tie.InvT-loop
-Inv-loop q s keys lowest answers₀ c k₀ answers k = (k ≤ c) × Answered q (summaryIn s) answers k × (length answers ≡ length answers₀)
+Inv-loop q s keys lowest known₀ answers₀ c k₀ known answers k =
+    (k ≤ c) × Answered q (summaryIn s) answers k × (length answers ≡ length answers₀) × Remembers q (summaryIn s) known × (length known ≡ length known₀)
 
 abbrev μ-loop : tie.MeasureT-loop
-μ-loop q s keys lowest answers₀ c k₀ answers k = c - k
+μ-loop q s keys lowest known₀ answers₀ c k₀ known answers k = c - k
 
 classes-requires : tie.Need-classes-requires Inv-loop μ-loop
-classes-requires c κs = well-file _ (c .before .before .before .before .before .pre .0 .well) .0
+classes-requires c κs = well-file _ (c .before .before .before .before .before .before .pre .0 .well) .0
 
 loop-holds : tie.Need-loop-holds Inv-loop μ-loop
-loop-holds c = (omega arith, (λ t m p i h. absurd (omega arith)), refl)
+loop-holds c = (omega arith, (λ t m p i h. absurd (omega arith)), refl, c .before .before .before .before .before .before .before .pre .1, refl)
 
-cast-t11 : tie.Need-cast-t11 Inv-loop μ-loop
-cast-t11 c = omega (arith, c .loop-test .taken, c .before .before .classes .ensures)
+cast-t14 : tie.Need-cast-t14 Inv-loop μ-loop
+cast-t14 c = omega (arith, c .before .loop-test .taken, c .before .before .before .classes .ensures)
 
 holds-requires : tie.Need-holds-requires Inv-loop μ-loop
-holds-requires c κs = (c .before .before .before .before .before .before .before .before .pre .0, omega (arith, c .loop-test .taken, c .before .before .classes .ensures))
+holds-requires c κs = (c .before .before .before .before .before .before .before .before .before .before .pre .0, c .before .before .loop .inv .3, omega (arith, c .before .loop-test .taken, c .before .before .before .classes .ensures))
 
 enum-known-yes : tie.Need-enum-known-yes Inv-loop μ-loop
 enum-known-yes c = search needs
@@ -35,15 +37,18 @@ enum-told : tie.Need-enum-told Inv-loop μ-loop
 enum-told c = search needs
 
 same-length : tie.Need-same-length Inv-loop μ-loop
-same-length c = c .before .before .before .before .loop .inv .2
+same-length c = search needs
+
+same-length-2 : tie.Need-same-length-2 Inv-loop μ-loop
+same-length-2 c = c .before .before .before .before .before .before .before .loop .inv .2
 
 returns : tie.Need-returns Inv-loop μ-loop
-returns c = not-answered _ _ (c .before .before .before .before .loop .answers) _ _ _ _ (c .before .before .holds .ensures) (c .enum-told .given .1)
+returns c = not-answered _ _ (c .before .before .before .before .before .before .before .loop .answers) _ _ _ _ (c .before .before .before .before .holds .ensures .0) (c .enum-told .given .1)
 
 slice-write-answers : tie.Need-slice-write-answers Inv-loop μ-loop
 slice-write-answers c =
-    let s = c .before .before .before .before .before .before .before .before .before .before .before .before .pre in
-    omega (arith, c .before .before .before .before .loop-test .taken, c .before .before .before .before .before .before .classes .ensures, sized-file _ (s .0 .well) .few-classes, s .1, c .before .before .before .before .before .loop .inv .2)
+    let s = c .before .before .before .before .before .before .before .before .before .before .before .before .before .before .before .before .pre in
+    omega (arith, c .before .before .before .before .before .before .before .loop-test .taken, c .before .before .before .before .before .before .before .before .before .classes .ensures, sized-file _ (s .0 .well) .few-classes, s .2, c .before .before .before .before .before .before .before .before .loop .inv .2)
 
 add-k : tie.Need-add-k Inv-loop μ-loop
 add-k c = omega arith
@@ -53,13 +58,17 @@ loop-less c = omega arith
 
 loop-again : tie.Need-loop-again Inv-loop μ-loop
 loop-again c =
-    let s = c .before .before .before .before .before .before .before .before .before .before .before .before .pre in
-    let l = c .before .before .before .before .before .loop in
-    let h : l .k < length (l .answers) = omega (arith, c .before .before .before .before .loop-test .taken, c .before .before .before .before .before .before .classes .ensures, sized-file _ (s .0 .well) .few-classes, s .1, l .inv .2) in
-    (omega arith, one-answered _ _ (l .answers) (l .k) _ _ h (c .before .before .before .holds .ensures) (c .before .yes .given .1) (l .inv .1), simp length-set (l .inv .2))
+    let s = c .before .before .before .before .before .before .before .before .before .before .before .before .before .before .before .before .pre in
+    let l = c .before .before .before .before .before .before .before .before .loop in
+    let h : l .k < length (l .answers) = omega (arith, c .before .before .before .before .before .before .before .loop-test .taken, c .before .before .before .before .before .before .before .before .before .classes .ensures, sized-file _ (s .0 .well) .few-classes, s .2, l .inv .2) in
+    let said = c .before .before .before .before .before .holds .ensures in
+    (omega arith, one-answered _ _ (l .answers) (l .k) _ _ h (said .0) (c .before .yes .given .1) (l .inv .1), simp length-set (l .inv .2), said .1, search needs)
 
-same-length-2 : tie.Need-same-length-2 Inv-loop μ-loop
-same-length-2 c = c .before .loop .inv .2
+same-length-3 : tie.Need-same-length-3 Inv-loop μ-loop
+same-length-3 c = c .before .loop .inv .4
+
+same-length-4 : tie.Need-same-length-4 Inv-loop μ-loop
+same-length-4 c = c .before .loop .inv .2
 
 returns-2 : tie.Need-returns-2 Inv-loop μ-loop
 returns-2 c = λ t m p. (refl, λ i h. c .before .loop .inv .1 t m p i (omega (arith, c .loop-test .left, c .before .before .classes .ensures)))
@@ -72,15 +81,17 @@ put-each-spec =
     μ-loop
     classes-requires
     loop-holds
-    cast-t11
+    cast-t14
     holds-requires
     enum-known-yes
     enum-told
     same-length
+    same-length-2
     returns
     slice-write-answers
     add-k
     loop-less
     loop-again
-    same-length-2
+    same-length-3
+    same-length-4
     returns-2)

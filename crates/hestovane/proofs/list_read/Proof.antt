@@ -62,7 +62,7 @@ same-length c = search needs
 returns-3 : tie.Need-returns-3
 returns-3 c =
     let s = c .before .before .before .before .before .before .before .before .before .before .before .before .before .before .before .before .before .before .before .before .pre in
-    let named = list-named _ (s .tree) (c .before .before .before .before .before .before .before .before .before .before .before .before .put-answers .last .1 .1 .1 .0) (s .well) (c .before .before .before .before .before .before .before .before .before .before .before .before .put-answers .ensures (s .tree) _ (parsed-question _ (s .tree) (s .reads)) .1) in
+    let named = list-named _ (s .tree) (c .before .before .before .before .before .before .before .before .before .before .before .before .put-answers .last .1 .1 .1 .1 .0) (s .well) (c .before .before .before .before .before .before .before .before .before .before .before .before .put-answers .ensures (s .tree) _ (parsed-question _ (s .tree) (s .reads)) .1) in
     gives-this _ _ _ _ _
     (ap (λ (l : List ℕ). into (length (c .before .before .before .before .before .before .before .before .before .before .before .before .before .before .before .before .before .before .before .before .args .out .now)) (pack put2 l)) (c .before .before .before .before .before .before .put-items .ensures .1 ∙ named)
     ∙ list-into _ _ _ (s .well) (s .tree) (s .reads) (sym (beyond-by _ (s .tree) _ _ (sym (s .depth-is)) (sym (s .threshold-is))) ∙ sym (c .before .before .before .before .before .before .before .before .before .before .before .before .before .before .before .beyond .ensures) ∙ c .before .before .before .before .before .before .before .before .before .before .before .before .before .before .if1 .left))
