@@ -1,58 +1,83 @@
 //! The registers that are timed: 1,024 items and up to 2,048 links in five shapes, from a yard of many like assemblies to one
-//! where nearly every item is a class of its own.
+//! where nearly every item is a class of its own; and a yard of 50 items. Each with the questions that are asked of it.
 
-pub const ITEMS: usize = 1_024;
+use crate::dice::Dice;
+use crate::questions::{leads_in, leads_out, Entry};
+
+const ITEMS: usize = 1_024;
 const LINKS: usize = 2_048;
 
 type Link = (usize, usize, usize);
 
-pub fn all() -> [(&'static str, Vec<u8>); 5] {
+pub struct Shape {
+    pub name: &'static str,
+    pub register: Vec<u8>,
+    /// Where a question of that depth leads from an item, step after step and again from the first.
+    pub steps: fn(&Shape, item: usize, depth: usize) -> Vec<Entry>,
+    links: Vec<Link>,
+}
+
+pub fn all() -> [Shape; 6] {
+    let unmarked = [0; ITEMS];
     [
-        ("yard", yard()),
-        ("random", random()),
-        ("ring", file(&[0; ITEMS], ring())),
-        ("chain", file(&[0; ITEMS], chain())),
-        ("star", file(&[0; ITEMS], star())),
+        shape("yard", &yard_marks(ITEMS), yard(ITEMS), down_and_up),
+        shape("random", &random_marks(), random(), walked),
+        shape("ring", &unmarked, ring(), onward),
+        shape("chain", &unmarked, chain(), onward),
+        shape("star", &unmarked, star(), there_and_back),
+        shape("50 items", &yard_marks(50), yard(50), down_and_up),
     ]
 }
 
-/// Assemblies of 32 items: a crane with four hoists, each with hooks, each hook with shackles; two links an item, there and
-/// back. One assembly in eight has a failed hook.
-fn yard() -> Vec<u8> {
-    let marks: Vec<u32> = (0..ITEMS).map(yard_marks).collect();
-    let mut links = vec![];
-    for x in (0..ITEMS).filter(|x| x % 32 != 0) {
-        let above = x - x % 32 + (x % 32 - 1) / 4;
-        links.push((above, 0, x));
-        links.push((x, 1, above));
+fn shape(
+    name: &'static str,
+    marks: &[u32],
+    mut links: Vec<Link>,
+    steps: fn(&Shape, usize, usize) -> Vec<Entry>,
+) -> Shape {
+    links.sort_unstable();
+    Shape {
+        name,
+        register: file(marks, &links),
+        steps,
+        links,
     }
-    file(&marks, links)
 }
 
-fn yard_marks(x: usize) -> u32 {
-    match (x % 32, x / 32 % 8) {
+/// Assemblies of 32 items: a crane with four hoists, each with hooks, each hook with shackles; two links an item, there and
+/// back.
+fn yard(items: usize) -> Vec<Link> {
+    let hung = (0..items).filter(|x| x % 32 != 0);
+    hung.flat_map(|x| {
+        let above = x - x % 32 + (x % 32 - 1) / 4;
+        [(above, 0, x), (x, 1, above)]
+    })
+    .collect()
+}
+
+/// One assembly in eight has a failed hook.
+fn yard_marks(items: usize) -> Vec<u32> {
+    let marks = |x: usize| match (x % 32, x / 32 % 8) {
         (0, _) => 16,
         (1..=4, _) => 1,
         (5, 0) => 10,
         (5..=20, _) => 6,
         _ => 32,
-    }
+    };
+    (0..items).map(marks).collect()
 }
 
 /// Two links from each item to items picked by chance, by labels picked by chance.
-fn random() -> Vec<u8> {
-    let mut state: u64 = 1;
-    let mut throw = |below: u64| {
-        state = state
-            .wrapping_mul(6_364_136_223_846_793_005)
-            .wrapping_add(1_442_695_040_888_963_407);
-        ((state >> 33) % below) as usize
-    };
-    let marks: Vec<u32> = (0..ITEMS).map(|_| [1, 6, 10, 32][throw(4)]).collect();
-    let links = (0..LINKS)
-        .map(|k| (k / 2, 8 * (k % 2) + throw(8), throw(ITEMS as u64)))
-        .collect();
-    file(&marks, links)
+fn random() -> Vec<Link> {
+    let mut dice = Dice(1);
+    (0..LINKS)
+        .map(|k| (k / 2, 8 * (k % 2) + dice.throw(8), dice.throw(ITEMS)))
+        .collect()
+}
+
+fn random_marks() -> Vec<u32> {
+    let mut dice = Dice(2);
+    (0..ITEMS).map(|_| dice.one_of(&[1, 6, 10, 32])).collect()
 }
 
 /// Each item is linked to the next two, round and round.
@@ -62,8 +87,11 @@ fn ring() -> Vec<Link> {
         .collect()
 }
 
+/// Each item is linked to the next, twice.
 fn chain() -> Vec<Link> {
-    (1..ITEMS).flat_map(|x| [(x - 1, 0, x), (x - 1, 1, x)]).collect()
+    (1..ITEMS)
+        .flat_map(|x| [(x - 1, 0, x), (x - 1, 1, x)])
+        .collect()
 }
 
 /// From item 0 to each other item, and back.
@@ -71,14 +99,67 @@ fn star() -> Vec<Link> {
     (1..ITEMS).flat_map(|x| [(0, 0, x), (x, 1, 0)]).collect()
 }
 
-fn file(marks: &[u32], mut links: Vec<Link>) -> Vec<u8> {
-    links.sort_unstable();
+/// In the yard, down to what hangs from what hangs from the item and up again. A deep question goes up and down without end:
+/// a crane begins with down.
+fn down_and_up(_: &Shape, item: usize, depth: usize) -> Vec<Entry> {
+    let (down, up) = (leads_out(0, 2), leads_out(1, 1));
+    match (depth, item % 32) {
+        (1..=3, _) => vec![down, down, up],
+        (_, 0) => vec![down, up],
+        _ => vec![up, down],
+    }
+}
+
+/// In the ring and in the chain, on and on and back.
+fn onward(_: &Shape, _: usize, _: usize) -> Vec<Entry> {
+    vec![leads_out(0, 1), leads_out(1, 1), leads_in(0, 1)]
+}
+
+/// In the star, out and back, or from the rim in and out.
+fn there_and_back(_: &Shape, item: usize, _: usize) -> Vec<Entry> {
+    let (out, back) = (leads_out(0, 4), leads_out(1, 1));
+    if item == 0 {
+        vec![out, back]
+    } else {
+        vec![back, out]
+    }
+}
+
+/// A walk from the item along links picked by chance, with and against them.
+fn walked(shape: &Shape, item: usize, _: usize) -> Vec<Entry> {
+    let mut dice = Dice(item as u64);
+    let mut at = item;
+    let mut step = || {
+        let touching: Vec<&Link> = shape
+            .links
+            .iter()
+            .filter(|l| l.0 == at || l.2 == at)
+            .collect();
+        let (source, label, target) = *dice.one_of(&touching);
+        if source == at {
+            at = target;
+            leads_out(label as u8, 1)
+        } else {
+            at = source;
+            leads_in(label as u8, 1)
+        }
+    };
+    (0..63).map(|_| step()).collect()
+}
+
+/// The register's bytes; links come in order.
+pub fn file(marks: &[u32], links: &[Link]) -> Vec<u8> {
     let (n, m) = (marks.len(), links.len());
-    let head = [n, m, 12, 12 + 4 * n, 12 + 4 * n + 6 * m, 0];
-    let mut bytes: Vec<u8> = head.iter().flat_map(|n| (*n as u16).to_be_bytes()).collect();
+    let numbers = |numbers: &[usize]| -> Vec<u8> {
+        numbers
+            .iter()
+            .flat_map(|number| (*number as u16).to_be_bytes())
+            .collect()
+    };
+    let mut bytes = numbers(&[n, m, 12, 12 + 4 * n, 12 + 4 * n + 6 * m, 0]);
     bytes.extend(marks.iter().flat_map(|marks| marks.to_be_bytes()));
     for (source, label, target) in links {
-        bytes.extend([source, label, target].iter().flat_map(|n| (*n as u16).to_be_bytes()));
+        bytes.extend(numbers(&[*source, *label, *target]));
     }
     bytes
 }
