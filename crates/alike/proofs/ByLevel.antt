@@ -1,22 +1,31 @@
 -- Level by level: level 0 from the marks, and each level from the finished one before it. Leans on theory's `class-list` and `alike-next`.
-use mathlib.Core.Path.{_≡_, refl, sym, ap, _∙_}
-use mathlib.Core.List.{List, _++_}
-use Prim.Native.Nat.{ℕ, suc, _+_, _≤_, _<_}
+use mathlib.Core.Path.{_≡_, refl, sym, ap, ap₂, subst, _∙_}
+use mathlib.Core.List.{List, [], _∷_, _++_}
+use Prim.Native.Nat.{ℕ, zero, suc, _+_, _-_, _≤_, _<_, pred}
 use native.Mathlib.Omega.{arith}
 use lib.ListN.{length, getD, drop, take, take-append-drop, length-append, length-drop}
-use lib.Seq.{take-at, drop-at, getD-take, length-take-le}
+use lib.Seq.{take-at, take-suc, drop-at, getD-take, length-take-le}
 use Rattle.meaning.specs.Count.{tab}
 use Rattle.meaning.specs.Register.{Register, items, marksOf, Fine}
 use Rattle.meaning.specs.Level.{alike, number, classList, classCount, alikeNext}
-use Rattle.theory.proofs.CountLaws.{tab-same}
+use Rattle.theory.proofs.CountLaws.{by-eq, tab-same}
 use Rattle.theory.proofs.NumberLaws.{number-cong}
 use Rattle.theory.proofs.ClassListLaws.{class-list, alike-next}
 use Rattle.signature.specs.Signature.{sameMarks}
-use Rattle.alike.specs.Step.{OfClasses, RowsStand, Reached}
+use Rattle.alike.specs.Step.{OfClasses, RowsStand, Reached, Onward}
 
 -- a copy keeps the length
 pub copied-long : (n : ℕ) (from to after : List ℕ) → n ≤ length from → n ≤ length to → after ≡ take n from ++ drop n to → length after ≡ length to
 copied-long n from to after h g e = ap length e ∙ length-append (take n from) (drop n to) ∙ simp length-drop (omega (arith, length-take-le n from h))
+
+pub copied-room : (n : ℕ) (from to after : List ℕ) → n ≤ length from → n ≤ length to → after ≡ take n from ++ drop n to → n ≤ length after
+copied-room n from to after h g e = omega (arith, g, copied-long n from to after h g e)
+
+-- two lists that begin alike, and one number more
+pub one-more : (ks ls : List ℕ) (x : ℕ) → x < length ks → x < length ls → take x ks ≡ take x ls → getD ks x 0 ≡ getD ls x 0 → take (x + 1) ks ≡ take (x + 1) ls
+one-more ks ls x h g e f =
+    let z : x + 1 ≡ suc x = omega arith in
+    rw z (take-suc ks x 0 h ∙ ap₂ (λ (l : List ℕ) (v : ℕ). l ++ (v ∷ [])) e f ∙ sym (take-suc ls x 0 g))
 
 -- after j steps: the list of level j; and from the first step on all that is asked of level j
 pub record Going (R : Register) (µ n j : ℕ) (lower₀ lower upper₀ upper : List ℕ) (groups classes : ℕ) (starts rows : List ℕ) : Type 0 where
@@ -117,3 +126,40 @@ module _ (R : Register) (µ : ℕ) where
               rows-stand = rw c at w;
             };
           }
+
+    -- ---- a step that changes nothing
+
+    module _ (fine : Fine R) where
+      next-same : (a b : ℕ) → classList R µ a ≡ classList R µ b → classList R µ (suc a) ≡ classList R µ (suc b)
+      next-same a b e = sym (level-next fine a) ∙ ap (λ (cs : List ℕ). tab (number (alikeNext R µ cs)) (items R)) e ∙ level-next fine b
+
+      -- is followed by none that does
+      steady : (j : ℕ) → classList R µ (suc j) ≡ classList R µ j → (d k : ℕ) → k ≡ j + d → classList R µ k ≡ classList R µ j
+      steady j e zero k h = let z : k ≡ j = omega arith in ap (classList R µ) z
+      steady j e (suc d) k h = let z : k ≡ suc (j + d) = omega arith in ap (classList R µ) z ∙ next-same (j + d) j (steady j e d (j + d) refl) ∙ e
+
+      pub going-on : (j i r : ℕ) (lower₀ lower upper₀ upper : List ℕ) (groups classes : ℕ) (starts rows : List ℕ) →
+          Going R µ n (suc j) lower₀ lower upper₀ upper groups classes starts rows → Onward j i r (take n lower) (take n upper) →
+          Going R µ n r lower₀ lower upper₀ upper groups classes starts rows
+      going-on j i r lower₀ lower upper₀ upper groups classes starts rows g on = by-eq r (suc j) (λ e. rw e g) (λ ne. further (on .steady ne))
+        where
+          reached : Reached R µ n (suc j) lower₀ lower upper₀ upper groups classes starts rows
+          reached = g .since (omega arith)
+
+          further : take n lower ≡ take n upper → Going R µ n r lower₀ lower upper₀ upper groups classes starts rows
+          further same =
+              let e : classList R µ (suc j) ≡ classList R µ j = sym (take-level (suc j) upper _ (g .upper-is)) ∙ sym same ∙ take-level j lower _ (reached .lower-is) in
+              let here : classList R µ (suc j) ≡ classList R µ r = e ∙ sym (steady j e (r - j) r (omega (arith, on .rises))) in
+              let before : classList R µ j ≡ classList R µ (pred r) = sym (steady j e (pred r - j) (pred r) (omega (arith, on .rises))) in
+              record {
+                lower-rest = g .lower-rest;
+                upper-is = g .upper-is ∙ ap (λ (l : List ℕ). l ++ drop n upper₀) here;
+                classes-are = g .classes-are ∙ ap classCount here;
+                since = λ h. record {
+                  lower-is = reached .lower-is ∙ ap (λ (l : List ℕ). l ++ drop n lower₀) before;
+                  upper-is = g .upper-is ∙ ap (λ (l : List ℕ). l ++ drop n upper₀) here;
+                  groups-are = reached .groups-are ∙ ap classCount before;
+                  classes-are = g .classes-are ∙ ap classCount here;
+                  rows-stand = subst (λ (cs : List ℕ). RowsStand R µ cs n starts rows) before (reached .rows-stand);
+                };
+              }

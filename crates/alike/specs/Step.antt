@@ -1,6 +1,6 @@
 -- What a level step takes and gives, besides the class lists: the keys of links, and the rows of items as words. Leans on meaning's
 -- Level and Condense, and on files for the register's bytes.
-use Prim.Native.Nat.{ℕ, _+_, _*_, _≤_, _<_, pred}
+use Prim.Native.Nat.{ℕ, suc, _+_, _*_, _≤_, _<_, pred}
 use mathlib.Core.Path.{_≡_}
 use mathlib.Core.List.{List, [], _∷_, _++_}
 use lib.ListN.{getD, length, take, drop}
@@ -57,3 +57,9 @@ pub record Reached (R : Register) (µ n i : ℕ) (lower₀ lower upper₀ upper 
   pub groups-are : groups ≡ classCount (classList R µ (pred i))
   pub classes-are : classes ≡ classCount (classList R µ i)
   pub rows-stand : RowsStand R µ (classList R µ (pred i)) n starts rows
+
+-- the level after level j, or level i where the step from level j left the list as it was
+pub record Onward (j i r : ℕ) (lower upper : List ℕ) : Type 0 where
+  pub rises : j < r
+  pub ends : r ≤ i
+  pub steady : (r ≡ suc j → ⊥) → lower ≡ upper

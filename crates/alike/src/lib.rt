@@ -3,6 +3,7 @@
 use meaning::Direction;
 use names::Item;
 ghost use mathlib.Core.Path.{_≡_};
+ghost use mathlib.Core.Bool.{true};
 ghost use mathlib.Core.List.{_++_};
 ghost use Prim.Native.Nat.{ℕ, _+_, _-_, _*_, _<_, _≤_};
 ghost use lib.ListN.{length, drop, take, getD};
@@ -13,7 +14,7 @@ ghost use Rattle.meaning.specs.Level.{number, alikeNext, classList, classCount}
 ghost use Rattle.files.specs.RegisterFile.{registerIn};
 ghost use Rattle.register.specs.Told.{OfLink, OfItems, OfRegister};
 ghost use Rattle.lists.specs.Writes.{Writes};
-ghost use Rattle.alike.specs.Step.{OfClasses, Room, keyOf, itemRows, itemStart, RowsStand, Reached};
+ghost use Rattle.alike.specs.Step.{OfClasses, Room, keyOf, itemRows, itemStart, RowsStand, Reached, Onward};
 
 // "direction times 16 plus label (out 0, in 1)".
 fn way_number(way: Direction, label: u8) -> u64
@@ -151,6 +152,33 @@ fn copy_classes(from: &[u16], n: usize, to: &mut [u16])
     }
 }
 
+// Whether two lists give n items the same classes.
+fn same_classes(lower: &[u16], upper: &[u16], n: usize) -> bool
+    requires { ⌜ (n ≤ length (now lower)) × (n ≤ length (now upper)) ⌝ }
+    ensures { λ r. ⌜ (r ≡ true → take n (now (lower .entry)) ≡ take n (now (upper .entry))) ⌝ }
+{
+    let mut x = 0;
+    while x < n {
+        if lower[x] != upper[x] {
+            return false;
+        }
+        x += 1;
+    }
+    true
+}
+
+// The level that is reached by the step from level j. A step that changes nothing is the last that could: then all levels are reached.
+fn next_level(lower: &[u16], upper: &[u16], n: usize, j: usize, i: usize) -> usize
+    requires { ⌜ (n ≤ length (now lower)) × (n ≤ length (now upper)) × (j < i) ⌝ }
+    ensures { λ r. ⌜ Onward j i r (take n (now (lower .entry))) (take n (now (upper .entry))) ⌝ }
+{
+    if same_classes(lower, upper, n) {
+        i
+    } else {
+        j + 1
+    }
+}
+
 // "The classes of a summary are those of level i; its groups are those of level i − 1": how many there are of each.
 pub struct Counts {
     pub groups: usize,
@@ -199,7 +227,7 @@ fn refine(
             other,
             firsts,
         );
-        j += 1;
+        j = next_level(lower, upper, n, j, i);
     }
     Counts { groups, classes }
 }

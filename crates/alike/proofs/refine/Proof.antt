@@ -1,9 +1,8 @@
 -- After j steps upper has the list of level j, and lower that of the level before (`Going`).
-use Rattle.alike.proofs.ByLevel.{Going, going-first, copied, copied-long, going-next, of-level}
+use Rattle.alike.proofs.ByLevel.{Going, going-first, copied, copied-long, copied-room, going-next, going-on, of-level}
 use native.Mathlib.Omega.{arith}
 use mathlib.Core.Path.{_≡_, refl, _∙_}
 use Prim.Native.Nat.{_+_, _-_, _≤_}
-use native.Mathlib.Numerals.{add-one}
 use lib.ListN.{length}
 use Rattle.files.specs.RegisterFile.{registerIn}
 use Rattle.register.proofs.Laws.{limits}
@@ -54,32 +53,36 @@ step-requires c κs =
       },
     )
 
-add-j : tie.Need-add-j Inv-loop μ-loop
-add-j c =
-    let at-loop-test = c .before .before .before .before .before .before .before .before .before .before .before .before .before .before .before .before .before .before .before .before .before .before .before .before .before in
-    let s = at-loop-test .before .before .before .before .before .before .before .before .before .before in
-    omega (arith, at-loop-test .loop-test, s .fits)
+next-level-requires : tie.Need-next-level-requires Inv-loop μ-loop
+next-level-requires c κs =
+    let s = c .before .before .before .before .before .before .before .before .before .before .before .before .before .before .before .before .before .before .before .before .before .before .before .before .before .before .before .before .before .before .before .before .before .before .before .before .before .pre in
+    let l = c .before .before .before .before .before .before .before .before .before .before .before .before .before .before .before .before .before .before .before .before .before .before .before .before .before .before .before .before .loop in
+    let copy = c .before .before .before .before .before .before .before .before .before .before .before .before .before .before .before .before .before .before .before .before .before .before .before .before .copy-classes .ensures in
+    (copied-room _ (l .upper) (l .lower) _ (omega (arith, s, l .inv .2)) (omega (arith, s, l .inv .1)) copy, omega (arith, s .4, l .inv .2, c .before .before .before .before .before .before .before .before .before .before .before .before .before .upper), omega (arith, s .2, c .before .before .before .before .before .before .before .before .before .before .before .before .before .before .before .before .before .before .before .before .before .before .before .before .before .before .before .loop-test .taken))
 
 loop-less : tie.Need-loop-less Inv-loop μ-loop
-loop-less c = omega arith
+loop-less c = let on = c .next-level .ensures in omega (arith, on .rises, on .ends)
 
 loop-again : tie.Need-loop-again Inv-loop μ-loop
 loop-again c =
-    let s = c .before .before .before .before .before .before .before .before .before .before .before .before .before .before .before .before .before .before .before .before .before .before .before .before .before .before .before .before .before .before .before .before .before .before .before in
+    let s = c .before .before .before .before .before .before .before .before .before .before .before .before .before .before .before .before .before .before .before .before .before .before .before .before .before .before .before .before .before .before .before .before .before .before .before .before .before .before in
     let a = s .args in
-    let l = c .before .before .before .before .before .before .before .before .before .before .before .before .before .before .before .before .before .before .before .before .before .before .before .before .before .before .loop in
+    let l = c .before .before .before .before .before .before .before .before .before .before .before .before .before .before .before .before .before .before .before .before .before .before .before .before .before .before .before .before .before .loop in
     let o = s .pre .0 in
-    let r = c .before .before .before .before .before .before .before .before .before .before .before .before .step .ensures in
-    let h : l .j + 1 ≤ a .i = omega (arith, c .before .before .before .before .before .before .before .before .before .before .before .before .before .before .before .before .before .before .before .before .before .before .before .before .before .loop-test) in (
-      h,
-      copied-long (a .n) _ _ _ (omega (arith, s .pre, l .inv .2)) (omega (arith, s .pre, l .inv .1)) (c .before .before .before .before .before .before .before .before .before .before .before .before .before .before .before .before .before .before .before .before .before .before .copy-classes .ensures) ∙ l .inv .1,
-      omega arith,
-      omega arith,
-      omega arith,
-      omega arith,
-      omega arith,
-      omega arith,
-      rw (add-one (l .j)) (going-next (registerIn (a .reg .now)) (a .mu) (a .n) (o .items-are) (of-fine (a .reg .now) (a .n) (a .m) o) (l .j) _ _ _ _ _ _ _ _ (l .inv .8) _ _ _ _ _ (c .before .before .before .before .before .before .before .before .before .before .before .before .before .before .before .before .before .before .before .before .before .before .copy-classes .ensures) (r .0) (r .1) (r .2)),
+    let fine = of-fine (a .reg .now) (a .n) (a .m) o in
+    let copy = c .before .before .before .before .before .before .before .before .before .before .before .before .before .before .before .before .before .before .before .before .before .before .before .before .before .copy-classes .ensures in
+    let r = c .before .before .before .before .before .before .before .before .before .before .before .before .before .before .before .step .ensures in
+    let on = c .next-level .ensures in (
+      on .ends,
+      copied-long (a .n) _ _ _ (omega (arith, s .pre, l .inv .2)) (omega (arith, s .pre, l .inv .1)) copy ∙ l .inv .1,
+      omega (arith, c .before .before .before .before .before .before .before .before .before .before .before .before .before .before .upper, l .inv .2),
+      omega (arith, c .before .before .before .before .before .before .before .before .before .before .before .before .rows, l .inv .3),
+      omega (arith, c .before .before .before .before .before .before .before .before .before .before .starts, l .inv .4),
+      omega (arith, c .before .before .before .before .before .before .before .before .keys, l .inv .5),
+      omega (arith, c .before .before .before .before .before .before .other, l .inv .6),
+      omega (arith, c .before .before .before .before .firsts, l .inv .7),
+      going-on (registerIn (a .reg .now)) (a .mu) (a .n) (o .items-are) fine (l .j) (a .i) _ _ _ _ _ _ _ _ _
+          (going-next (registerIn (a .reg .now)) (a .mu) (a .n) (o .items-are) fine (l .j) _ _ _ _ _ _ _ _ (l .inv .8) _ _ _ _ _ copy (r .0) (r .1) (r .2)) on,
     )
 
 same-length : tie.Need-same-length Inv-loop μ-loop
@@ -120,7 +123,7 @@ refine-spec =
     loop-holds
     copy-classes-requires
     step-requires
-    add-j
+    next-level-requires
     loop-less
     loop-again
     same-length

@@ -34,12 +34,27 @@ slice-aggregate-holds-4 c = search needs
 
 holds-requires-2 : tie.Need-holds-requires-2
 holds-requires-2 c κs =
-    let s = c .before .before .before .before .before .before .before .before .before .pre in
-    let low = c .before .before .before .before .put-lowest .ensures in
-    (record { well = s .0; keys-long = s .1; kept = s .2; lowest-long = low .0; lowest-are = low .1 }, remembers-none _ _ 65536 (omega arith), s .3)
+    let s = c .before .before .before .before .before .before .before .before .before .before .pre in
+    let low = c .before .before .before .before .before .put-lowest .ensures in
+    (record { well = s .0; keys-long = s .1; kept = s .2; lowest-long = low .0; lowest-are = low .1 }, remembers-none _ _ 16384 (omega arith), s .3)
 
 returns-2 : tie.Need-returns-2
 returns-2 c = c .before .holds2 .ensures .0
+
+slice-aggregate-holds-5 : tie.Need-slice-aggregate-holds-5
+slice-aggregate-holds-5 c = search needs
+
+slice-aggregate-holds-6 : tie.Need-slice-aggregate-holds-6
+slice-aggregate-holds-6 c = search needs
+
+holds-requires-3 : tie.Need-holds-requires-3
+holds-requires-3 c κs =
+    let s = c .before .before .before .before .before .before .before .before .before .before .pre in
+    let low = c .before .before .before .before .before .put-lowest .ensures in
+    (record { well = s .0; keys-long = s .1; kept = s .2; lowest-long = low .0; lowest-are = low .1 }, remembers-none _ _ 65536 (omega arith), s .3)
+
+returns-3 : tie.Need-returns-3
+returns-3 c = c .before .holds3 .ensures .0
 
 pub ask-spec : {M : Type 1} → statement M
 ask-spec =
@@ -54,4 +69,8 @@ ask-spec =
     slice-aggregate-holds-3
     slice-aggregate-holds-4
     holds-requires-2
-    returns-2)
+    returns-2
+    slice-aggregate-holds-5
+    slice-aggregate-holds-6
+    holds-requires-3
+    returns-3)

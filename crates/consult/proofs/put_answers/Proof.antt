@@ -37,15 +37,33 @@ slice-aggregate-put-each-4 c = search needs
 
 put-each-requires-2 : tie.Need-put-each-requires-2
 put-each-requires-2 c κs =
-    let s = c .before .before .before .before .before .before .before .before .before .before .before .pre in
-    let low = c .before .before .before .before .before .put-lowest .ensures in
-    (record { well = s .0; keys-long = s .1; kept = s .2; lowest-long = low .0; lowest-are = low .1 }, remembers-none _ _ 65536 (omega arith), s .3)
+    let s = c .before .before .before .before .before .before .before .before .before .before .before .before .pre in
+    let low = c .before .before .before .before .before .before .put-lowest .ensures in
+    (record { well = s .0; keys-long = s .1; kept = s .2; lowest-long = low .0; lowest-are = low .1 }, remembers-none _ _ 16384 (omega arith), s .3)
 
 same-length-2 : tie.Need-same-length-2
 same-length-2 c = search needs
 
 returns-2 : tie.Need-returns-2
 returns-2 c = c .before .before .before .put-each2 .ensures
+
+slice-aggregate-put-each-5 : tie.Need-slice-aggregate-put-each-5
+slice-aggregate-put-each-5 c = search needs
+
+slice-aggregate-put-each-6 : tie.Need-slice-aggregate-put-each-6
+slice-aggregate-put-each-6 c = search needs
+
+put-each-requires-3 : tie.Need-put-each-requires-3
+put-each-requires-3 c κs =
+    let s = c .before .before .before .before .before .before .before .before .before .before .before .before .pre in
+    let low = c .before .before .before .before .before .before .put-lowest .ensures in
+    (record { well = s .0; keys-long = s .1; kept = s .2; lowest-long = low .0; lowest-are = low .1 }, remembers-none _ _ 65536 (omega arith), s .3)
+
+same-length-3 : tie.Need-same-length-3
+same-length-3 c = search needs
+
+returns-3 : tie.Need-returns-3
+returns-3 c = c .before .before .before .put-each3 .ensures
 
 pub put-answers-spec : {M : Type 1} → statement M
 put-answers-spec =
@@ -62,4 +80,9 @@ put-answers-spec =
     slice-aggregate-put-each-4
     put-each-requires-2
     same-length-2
-    returns-2)
+    returns-2
+    slice-aggregate-put-each-5
+    slice-aggregate-put-each-6
+    put-each-requires-3
+    same-length-3
+    returns-3)
