@@ -72,7 +72,8 @@
 //! does is not this library, and the crate panics rather than hand its answer on.
 //!
 //! A call takes up to 170 KiB of stack, and not much less for a small register: 170 KiB for
-//! [`check`] and [`Summary::read`], 145 for [`condense`], 80 for the others, measured on aarch64.
+//! [`check`] and [`Summary::read`], 145 for [`condense`], [`ask_summary`] and [`list`], 80 for
+//! [`ask_register`], measured on aarch64.
 //! Threads have 2 MiB unless told otherwise; lend one that calls in here 256 KiB or more. With too
 //! little the process ends with a stack overflow, as it does in Rust's own code. The calls keep
 //! nothing between them, so any number of threads may call at once.
