@@ -36,11 +36,13 @@ use Rattle.question.specs.declared.Spanned.the-variants.{Tree, Refused}
 use Rattle.question.specs.Read.{kindOf, entryAt, Parsed, Spans}
 use Rattle.question.proofs.Laws.{clash, reads-first, forward, parsed-true, parsed-literal, parsed-not, parsed-and, parsed-or, parsed-least, parsed-one}
 use Rattle.question.proofs.Steps.{Two}
+use Rattle.memo.specs.Kept.{turned, any, decides, tell, slot}
+use Rattle.memo.proofs.Laws.{recalled-so, remembers-kept}
 use Rattle.wellformed.proofs.Laws.{well-file, sized-file, groups-file}
 use Rattle.wellformed.proofs.Match.{row-at}
 use Rattle.consult.specs.declared.Counted.{Counted}
 use Rattle.consult.specs.declared.Counted.the-variants.{Sum}
-use Rattle.consult.specs.Consulted.{Consulted, Own, adds, Holds, Counts, Answers, turned, any, decides, reached, Remembers, tell, slot, kept}
+use Rattle.consult.specs.Consulted.{Consulted, Own, adds, Holds, Counts, Answers, reached, Remembers}
 use Rattle.consult.proofs.Lowest.{lowest-below}
 use Rattle.consult.proofs.Window.{counted-own}
 
@@ -61,15 +63,6 @@ undecided true true y h = absurd (let z : _≡_ {A = ℕ} 0 1 = cc in omega arit
 undecided true false y h = refl
 undecided false true y h = refl
 undecided false false y h = absurd (let z : _≡_ {A = ℕ} 0 1 = cc in omega arith)
-
--- no other kind than "or" is content with one operand
-pub not-any : (k : Kind) → OneOf (0 ∷ 1 ∷ 2 ∷ 3 ∷ 5 ∷ []) (tagOf the-type k) → any k ≡ false
-not-any True h = refl
-not-any (Literal z) h = refl
-not-any Not h = refl
-not-any And h = refl
-not-any (AtLeast d l n) h = refl
-not-any Or h = absurd (⊎-elim (λ e. omega arith) (⊎-elim (λ e. omega arith) (⊎-elim (λ e. omega arith) (⊎-elim (λ e. omega arith) (λ e. omega arith)))) h)
 
 -- the first stands at the next entry, the second where the first ends
 operands : (q : List ℕ) (i : ℕ) (S : Summary) (c : ℕ) (kind : Kind) → Two kind → entryAt q i ≡ some kind → (t : Question) (k : ℕ) → Parsed q i t k →
@@ -217,63 +210,15 @@ module _ (s keys lowest : List ℕ) (w : Consulted s keys lowest) (g : ℕ) (h :
 
 -- ---- what is kept of groups
 
-by-lt : {P : Type 0} (a b : ℕ) → (a < b → P) → (b ≤ a → P) → P
-by-lt a b f g = by-bool (ltb a b) (λ e. f (ltb-true a b e)) (λ e. g (ltb-false a b e))
-
-two-or-one : (b : Bool) → eqb (tell b) 2 ≡ b
-two-or-one true = refl
-two-or-one false = refl
-
-zeros : (n j : ℕ) → _≡_ {A = ℕ} (getD (replicate n 0) j 0) 0
-zeros n j = by-lt j n (getD-replicate {A = ℕ} n j 0 0) (λ h. List·getD-eq-default (replicate n 0) 0 (omega (arith, h, length-replicate {A = ℕ} n 0)))
-
-pub remembers-none : (q : List ℕ) (S : Summary) (n : ℕ) → n ≤ 65536 → Remembers q S (replicate n 0)
-remembers-none q S n h = record { short = omega (arith, h, length-replicate {A = ℕ} n 0); so = λ i g u v t k p. inl (zeros n (1024 * i + g)) }
-
 module _ (q : List ℕ) (S : Summary) (known : List ℕ) (r : Remembers q S known) (i g : ℕ) (v : g < 1024) where
-  -- what was kept is the answer
   pub recalled-holds : (told : ℕ) → told ≡ getD known (slot i g) 0 → (told ≡ 0 → ⊥) → Holds q i S (lowestClass S g) (Said (eqb told 2))
-  recalled-holds told e f t k p = by-lt i 64 inside outside
-    where
-      inside : i < 64 → Said (eqb told 2) ≡ Said (holdsAt S t (lowestClass S g))
-      inside u =
-          let e′ : told ≡ getD known (1024 * i + g) 0 = e ∙ ap (λ (b : Bool). getD known (cond b (1024 * i + g) 65536) 0) (lt-ltb i 64 u) in
-          ⊎-elim (λ z. absurd (f (e′ ∙ z))) (λ z. ap (λ (b : Bool). Said b) (ap (λ (n : ℕ). eqb n 2) (e′ ∙ z) ∙ two-or-one (holdsAt S t (lowestClass S g)))) (r .so i g u v t k p)
+  recalled-holds told e f t k p = ap (λ (b : Bool). Said b) (recalled-so q (λ t g. holdsAt S t (lowestClass S g)) known r i g v told e f t k p)
 
-      outside : 64 ≤ i → Said (eqb told 2) ≡ Said (holdsAt S t (lowestClass S g))
-      outside u =
-          let e′ : told ≡ getD known 65536 0 = e ∙ ap (λ (b : Bool). getD known (cond b (1024 * i + g) 65536) 0) (le-ltb i 64 u) in
-          absurd (f (e′ ∙ List·getD-eq-default known 0 (r .short)))
-
-  -- and an answer may be kept
-  pub remembers-kept : (a : Asked) → Holds q i S (lowestClass S g) a → Remembers q S (kept known (slot i g) a)
-  remembers-kept (NotSaid e) holds = r
-  remembers-kept (Said b) holds = record { short = simp length-set (r .short); so = λ j h u x t k p. by-lt i 64 (inside j h u x t k p) (outside j h u x t k p) }
-    where
-      Kept : ℕ → ℕ → Question → Type 0
-      Kept j h t = (getD (set known (slot i g) (tell b)) (1024 * j + h) 0 ≡ 0) ⊎ (getD (set known (slot i g) (tell b)) (1024 * j + h) 0 ≡ tell (holdsAt S t (lowestClass S h)))
-
-      other : (j h : ℕ) → j < 64 → h < 1024 → (t : Question) (k : ℕ) → Parsed q j t k → getD (set known (slot i g) (tell b)) (1024 * j + h) 0 ≡ getD known (1024 * j + h) 0 → Kept j h t
-      other j h u x t k p e = ⊎-elim (λ z. inl (e ∙ z)) (λ z. inr (e ∙ z)) (r .so j h u x t k p)
-
-      outside : (j h : ℕ) → j < 64 → h < 1024 → (t : Question) (k : ℕ) → Parsed q j t k → 64 ≤ i → Kept j h t
-      outside j h u x t k p w =
-          let e : slot i g ≡ 65536 = ap (λ (c : Bool). cond c (1024 * i + g) 65536) (le-ltb i 64 w) in
-          other j h u x t k p (ap (λ (l : List ℕ). getD l (1024 * j + h) 0) (set-out known (slot i g) (tell b) (omega (arith, e, r .short))))
-
-      here : (j h : ℕ) (t : Question) (k : ℕ) → Parsed q j t k → j ≡ i → h ≡ g → getD (set known (slot i g) (tell b)) (1024 * j + h) 0 ≡ tell b → Kept j h t
-      here j h t k p e f z =
-          let said : b ≡ holdsAt S t (lowestClass S g) = said-one (Said b) b _ refl (holds t k (subst (λ (n : ℕ). Parsed q n t k) e p)) in
-          inr (z ∙ ap tell (said ∙ ap (λ (n : ℕ). holdsAt S t (lowestClass S n)) (sym f)))
-
-      inside : (j h : ℕ) → j < 64 → h < 1024 → (t : Question) (k : ℕ) → Parsed q j t k → i < 64 → Kept j h t
-      inside j h u x t k p w =
-          let e : slot i g ≡ 1024 * i + g = ap (λ (c : Bool). cond c (1024 * i + g) 65536) (lt-ltb i 64 w) in
-          by-eq (1024 * j + h) (slot i g)
-          (λ z. by-lt (slot i g) (length known)
-          (λ y. here j h t k p (omega (arith, z, e)) (omega (arith, z, e)) (ap (λ (m : ℕ). getD (set known (slot i g) (tell b)) m 0) z ∙ getD-set-same known (slot i g) (tell b) 0 y))
-          (λ y. other j h u x t k p (ap (λ (l : List ℕ). getD l (1024 * j + h) 0) (set-out known (slot i g) (tell b) y))))
-          (λ z. other j h u x t k p (getD-set-other known (slot i g) (1024 * j + h) (tell b) 0 z))
+  pub holds-kept : (a : Asked) (b : Bool) → a ≡ Said b → Holds q i S (lowestClass S g) a → Holds q i S (lowestClass S g) (Said b) × Remembers q S (set known (slot i g) (tell b))
+  holds-kept a b e holds = (
+    λ t k p. sym e ∙ holds t k p,
+    remembers-kept q (λ t g. holdsAt S t (lowestClass S g)) known r i g v b (λ t k p. said-one a b _ e (holds t k p)),
+  )
 
 -- ---- the classes, one after another
 

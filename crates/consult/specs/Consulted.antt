@@ -20,6 +20,7 @@ use Rattle.question.specs.declared.Asked.the-variants.{Said, Refused as NotSaid
 use Rattle.question.specs.declared.Filled.{Filled}
 use Rattle.question.specs.declared.Filled.the-variants.{Done}
 use Rattle.question.specs.Read.{Parsed}
+use Rattle.memo.specs.Kept as kept
 use Rattle.wellformed.specs.Keys.{Keyed}
 use Rattle.consult.specs.declared.Counted.{Counted}
 use Rattle.consult.specs.declared.Counted.the-variants.{Sum, Refused}
@@ -56,46 +57,11 @@ Counts q i S low high r = (t : Question) (k : ℕ) → Parsed q i t k → r ≡ 
 abbrev pub Answers : List ℕ → Summary → Filled → List Bool → Type 0
 Answers q S r answers = (t : Question) (k : ℕ) → Parsed q 0 t k → (r ≡ Done) × ((c : ℕ) → c < length (S .classes) → getD answers c false ≡ holdsAt S t c)
 
--- "not, one operand"
-abbrev pub turned : Asked → Asked
-turned (Said b) = Said (not b)
-turned (NotSaid r) = NotSaid r
-
--- of the two operands of an entry one is enough
-abbrev pub any : Kind → Bool
-any True = false
-any (Literal k) = false
-any Not = false
-any And = false
-any Or = true
-any (AtLeast d l n) = false
-
--- "and, or": whether the first operand decides
-abbrev pub decides : Kind → Asked → Bool
-decides k (Said b) = cond (any k) b (not b)
-decides k (NotSaid r) = true
-
 -- "at least t"
 abbrev pub reached : ℕ → Counted → Asked
 reached t (Sum n) = Said (leb t n)
 reached t (Refused r) = NotSaid Malformation
 
--- ---- what is kept of groups: 0 for not known, 1 for no, 2 for yes
-
-abbrev pub tell : Bool → ℕ
-tell true = 2
-tell false = 1
-
--- where it is kept what the tree at entry i says at group g
-abbrev pub slot : ℕ → ℕ → ℕ
-slot i g = cond (ltb i 64) (1024 * i + g) 65536
-
-abbrev pub kept : List ℕ → ℕ → Asked → List ℕ
-kept known j (Said b) = set known j (tell b)
-kept known j (NotSaid r) = known
-
--- what is known is so
-pub record Remembers (q : List ℕ) (S : Summary) (known : List ℕ) : Type 0 where
-  pub short : length known ≤ 65536
-  pub so : (i g : ℕ) → i < 64 → g < 1024 → (t : Question) (k : ℕ) → Parsed q i t k →
-      (getD known (1024 * i + g) 0 ≡ 0) ⊎ (getD known (1024 * i + g) 0 ≡ tell (holdsAt S t (lowestClass S g)))
+-- what is kept of groups is so: "an operand holds at a group when it holds at the group's lowest-numbered class"
+abbrev pub Remembers : List ℕ → Summary → List ℕ → Type 0
+Remembers q S known = kept.Remembers q (λ t g. holdsAt S t (lowestClass S g)) known

@@ -1,5 +1,5 @@
 // Whether a question holds at a class of a summary: "whether an entry holds asks for a count of neighbours, and that count asks whether the
-// operand holds". Leans on question for the entries, on reader for the file's numbers and on seek for a class's rows.
+// operand holds". Leans on question for the entries, on reader for the file's numbers, on seek for a class's rows and on memo for what was said.
 use files::Refusal;
 use meaning::Direction;
 use meaning::Kind;
@@ -17,7 +17,7 @@ ghost use Rattle.meaning.specs.Summary.{lowestClass};
 ghost use Rattle.meaning.specs.WellFormed as meant;
 ghost use Rattle.files.specs.SummaryFile.{summaryIn, wellFormedFile};
 ghost use Rattle.wellformed.specs.Keys.{Keyed};
-ghost use Rattle.consult.specs.Consulted.{Consulted, Own, Holds, Counts, Answers, Remembers, tell, slot, kept};
+ghost use Rattle.consult.specs.Consulted.{Consulted, Own, Holds, Counts, Answers, Remembers};
 ghost use Rattle.consult.specs.Consulted as consulted;
 
 // A count of neighbours.
@@ -161,10 +161,10 @@ fn holds(
     match kind {
         Kind::True => Asked::Said(true),
         Kind::Literal(literal) => Asked::Said(question::shows(reader::marks(s, class), literal)),
-        Kind::Not => turned(holds(q, at + 1, s, keys, lowest, known, class)),
+        Kind::Not => memo::turned(holds(q, at + 1, s, keys, lowest, known, class)),
         Kind::And | Kind::Or => {
             let first = holds(q, at + 1, s, keys, lowest, known, class);
-            if decides(kind, first) {
+            if memo::decides(kind, first) {
                 return first;
             }
             let Spanned::Tree {
@@ -233,50 +233,16 @@ fn group_holds(
     ensures { λ r. ⌜ Holds (now (q .entry)) at (summaryIn (now (s .entry))) (lowestClass (summaryIn (now (s .entry))) (group .0)) r ⌝ }
     ensures known { λ _. ⌜ Remembers (now (q .entry)) (summaryIn (now (s .entry))) (now (known .exit)) ⌝ }
 {
-    let slot = slot_of(at, group);
-    let told = recalled(known, slot);
+    let slot = memo::slot_of(at, group.0);
+    let told = memo::recalled(known, slot);
     if told != 0 {
         return Asked::Said(told == 2);
     }
-    let answer = holds(q, at, s, keys, lowest, known, lowest_of(lowest, group));
-    remember(known, slot, answer);
-    answer
-}
-
-// Where it is kept what holds at the group; beyond entry 63 nothing is.
-fn slot_of(at: usize, group: Group) -> usize
-    requires { ⌜ group .0 < 1024 ⌝ }
-    ensures { λ r. ⌜ r ≡ slot at (group .0) ⌝ }
-{
-    if at < 64 {
-        1024 * at + group.index()
-    } else {
-        65536
-    }
-}
-
-// 0 for not known, 1 for no, 2 for yes.
-fn recalled(known: &[u8], slot: usize) -> u8
-    ensures { λ r. ⌜ r ≡ getD (now (known .entry)) slot 0 ⌝ }
-{
-    if slot < known.len() { known[slot] } else { 0 }
-}
-
-fn remember(known: &mut [u8], slot: usize, answer: Asked)
-    ensures { λ _. ⌜ now (known .exit) ≡ kept (now (known .entry)) slot answer ⌝ }
-{
-    let Asked::Said(yes) = answer else {
-        return;
+    let Asked::Said(yes) = holds(q, at, s, keys, lowest, known, lowest_of(lowest, group)) else {
+        return Asked::Refused(Refusal::Question);
     };
-    if slot < known.len() {
-        known[slot] = code_of(yes);
-    }
-}
-
-fn code_of(yes: bool) -> u8
-    ensures { λ r. ⌜ r ≡ tell yes ⌝ }
-{
-    if yes { 2 } else { 1 }
+    memo::remember(known, slot, yes);
+    Asked::Said(yes)
 }
 
 // The row's count, where the operand holds.
@@ -285,29 +251,6 @@ fn added(sum: u32, yes: bool, count: u16) -> u32
     ensures { λ r. ⌜ r ≡ sum + cond yes count 0 ⌝ }
 {
     if yes { sum + count as u32 } else { sum }
-}
-
-// "not, one operand".
-fn turned(operand: Asked) -> Asked
-    ensures { λ r. ⌜ r ≡ consulted.turned operand ⌝ }
-{
-    let Asked::Said(yes) = operand else {
-        return operand;
-    };
-    Asked::Said(!yes)
-}
-
-// "and, or, two operands": whether the first one's answer is the whole's, so that the second need not be asked.
-fn decides(kind: Kind, first: Asked) -> bool
-    ensures { λ r. ⌜ r ≡ consulted.decides kind first ⌝ }
-{
-    let Asked::Said(yes) = first else {
-        return true;
-    };
-    match kind {
-        Kind::Or => yes,
-        _ => !yes,
-    }
 }
 
 // "at least t .. neighbours .. satisfy the operand".

@@ -14,8 +14,8 @@ use Rattle.question.proofs.Laws.{is-entry, within-entry, literal-back, literal-
 use Rattle.question.proofs.Steps.{Two, two-of}
 use Rattle.reader.specs.Sized.{HasRow}
 use Rattle.wellformed.proofs.Laws.{well-file, sized-file}
-use Rattle.consult.specs.Consulted.{Holds, Remembers, kept}
-use Rattle.consult.proofs.Laws.{holds-none, holds-true, holds-literal, holds-not, holds-first, holds-second, holds-unspanned, spans-on, holds-least, Summed, summed-none, summed-all, counts-unasked, one-summed, sum-most, added-most, row-grouped, group-few, lowest-asked, recalled-holds, remembers-kept}
+use Rattle.consult.specs.Consulted.{Holds, Remembers}
+use Rattle.consult.proofs.Laws.{holds-none, holds-true, holds-literal, holds-not, holds-first, holds-second, holds-unspanned, spans-on, holds-least, Summed, summed-none, summed-all, counts-unasked, one-summed, sum-most, added-most, row-grouped, group-few, lowest-asked, not-refused, recalled-holds, holds-kept}
 use borrow.Author.Needs.{needs}
 use borrow.Fn.Kinds.{In}
 use borrow.Fn.PlainCycle.{Measures, is, falls, and}
@@ -29,14 +29,14 @@ use Rattle.consult.proofs.neighbour_count.Reads as count
 use Rattle.consult.proofs.neighbour_count.Kinds as count-kinds
 use Rattle.consult.proofs.+group_holds+holds+neighbour_count.Lts-neighbour_count as count-lts
 use Rattle.consult.proofs.added.Reads as added-reads
-use Rattle.consult.proofs.decides.Reads as decides-reads
+use Rattle.memo.proofs.decides.Reads as decides-reads
 use Rattle.consult.proofs.lowest_of.Reads as lowest-of-reads
 use Rattle.consult.proofs.reached.Reads as reached-reads
-use Rattle.consult.proofs.recalled.Reads as recalled-reads
-use Rattle.consult.proofs.remember.Reads as remember-reads
-use Rattle.consult.proofs.slot_of.Reads as slot-of-reads
+use Rattle.memo.proofs.recalled.Reads as recalled-reads
+use Rattle.memo.proofs.remember.Reads as remember-reads
+use Rattle.memo.proofs.slot_of.Reads as slot-of-reads
 use Rattle.consult.proofs.rows_of.Reads as rows-of-reads
-use Rattle.consult.proofs.turned.Reads as turned-reads
+use Rattle.memo.proofs.turned.Reads as turned-reads
 use Rattle.question.proofs.entry.Reads as entry-reads
 use Rattle.question.proofs.shows.Reads as shows-reads
 use Rattle.question.proofs.span.Reads as span-reads
@@ -124,19 +124,38 @@ group-lowest-of-requires t c κs = group-few _ _ _ (c .before .before .before .b
 group-holds-requires : (t : ℕ) → group-lts.Need-holds-requires (group-given t) (group-at t) group.Post
 group-holds-requires t c κs = let s = c .before .before .before .before .before .before .before .before .before .before .before in (omega (arith, s .pre .0), (s .pre .1 .0, s .pre .1 .1, lowest-asked _ _ _ (s .pre .1 .0) _ (s .pre .1 .2) _ (c .lowest-of .ensures) .1))
 
-group-remember-requires : (t : ℕ) → group-lts.Need-remember-requires (group-given t) (group-at t) group.Post
-group-remember-requires t c κs = search needs
+group-enum-known-yes : (t : ℕ) → group-lts.Need-enum-known-yes (group-given t) (group-at t) group.Post
+group-enum-known-yes t c = search needs
+
+group-enum-told : (t : ℕ) → group-lts.Need-enum-told (group-given t) (group-at t) group.Post
+group-enum-told t c = search needs
 
 group-same-length-2 : (t : ℕ) → group-lts.Need-same-length-2 (group-given t) (group-at t) group.Post
 group-same-length-2 t c = search needs
 
 group-returns-2 : (t : ℕ) → group-lts.Need-returns-2 (group-given t) (group-at t) group.Post
 group-returns-2 t c =
-    let s = c .before .before .before .before .before .before .before .before .before .before .before .before .before .before .before .before .before .before in
-    let h = c .before .before .before .before .before .before .holds .ensures in
-    let low = lowest-asked _ _ _ (s .pre .1 .0) _ (s .pre .1 .2) _ (c .before .before .before .before .before .before .before .lowest-of .ensures) .0 in
-    let said = subst (λ (x : ℕ). Holds (s .args .q .now) (s .args .at) (summaryIn (s .args .s .now)) x (c .before .before .before .before .before .before .holds .result)) low (h .0) in
-    (said, rw (c .before .before .remember .ensures, c .before .before .before .before .before .before .before .before .before .before .before .before .slot-of .ensures) (remembers-kept _ _ _ (h .1) (s .args .at) (s .args .group .0) (group-few _ _ _ (s .pre .1 .0) _ (s .pre .1 .2) .0) _ said))
+    let s = c .before .before .before .before .before .before .before .before .before .before .before .before .before .before .before .before in
+    let h = c .before .before .before .before .holds .ensures in
+    let low = lowest-asked _ _ _ (s .pre .1 .0) _ (s .pre .1 .2) _ (c .before .before .before .before .before .lowest-of .ensures) .0 in
+    let said = subst (λ (x : ℕ). Holds (s .args .q .now) (s .args .at) (summaryIn (s .args .s .now)) x (c .before .before .before .before .holds .result)) low (h .0) in
+    ((λ t k p. absurd (not-refused _ _ _ (said t k p) (c .enum-told .given .1))), h .1)
+
+group-remember-requires : (t : ℕ) → group-lts.Need-remember-requires (group-given t) (group-at t) group.Post
+group-remember-requires t c κs = search needs
+
+group-same-length-3 : (t : ℕ) → group-lts.Need-same-length-3 (group-given t) (group-at t) group.Post
+group-same-length-3 t c = search needs
+
+group-returns-3 : (t : ℕ) → group-lts.Need-returns-3 (group-given t) (group-at t) group.Post
+group-returns-3 t c =
+    let s = c .before .before .before .before .before .before .before .before .before .before .before .before .before .before .before .before .before .before .before .before .before in
+    let h = c .before .before .before .before .before .before .before .before .before .holds .ensures in
+    let low = lowest-asked _ _ _ (s .pre .1 .0) _ (s .pre .1 .2) _ (c .before .before .before .before .before .before .before .before .before .before .lowest-of .ensures) .0 in
+    let said = subst (λ (x : ℕ). Holds (s .args .q .now) (s .args .at) (summaryIn (s .args .s .now)) x (c .before .before .before .before .before .before .before .before .before .holds .result)) low (h .0) in
+    let few = group-few _ _ _ (s .pre .1 .0) _ (s .pre .1 .2) .0 in
+    rw (c .before .before .remember .ensures, c .before .before .before .before .before .before .before .before .before .before .before .before .before .before .before .slot-of .ensures)
+    (holds-kept _ _ _ (h .1) (s .args .at) (s .args .group .0) few _ (c .before .before .before .before .before .yes .given .0 .0) (c .before .before .before .before .before .yes .given .1) said)
 
 -- ---- holds
 
@@ -358,9 +377,13 @@ pub +group-holds+holds+neighbour-count-spec : {M : Type 1} → statement M
     (group-returns t)
     (group-lowest-of-requires t)
     (group-holds-requires t)
-    (group-remember-requires t)
+    (group-enum-known-yes t)
+    (group-enum-told t)
     (group-same-length-2 t)
-    (group-returns-2 t))
+    (group-returns-2 t)
+    (group-remember-requires t)
+    (group-same-length-3 t)
+    (group-returns-3 t))
     (λ t. holds-lts.spec (holds-given t) (holds-at t) holds.Post
     (holds-entry-requires t)
     (holds-enum-known-kind t)

@@ -1,6 +1,6 @@
 -- The lowest classes are put, and the question is asked from entry 0 with nothing known yet.
 use native.Mathlib.Omega.{arith}
-use Rattle.consult.proofs.Laws.{remembers-none}
+use Rattle.memo.proofs.Laws.{remembers-none}
 use borrow.Author.Needs.{needs}
 use Rattle.consult.proofs.ask.Statement.{statement}
 use Rattle.consult.proofs.ask.Tie as tie

@@ -1,6 +1,6 @@
 -- The lowest classes are put, and then every class is asked, with nothing known yet.
 use native.Mathlib.Omega.{arith}
-use Rattle.consult.proofs.Laws.{remembers-none}
+use Rattle.memo.proofs.Laws.{remembers-none}
 use borrow.Author.Needs.{needs}
 use Rattle.consult.proofs.put_answers.Statement.{statement}
 use Rattle.consult.proofs.put_answers.Tie as tie

@@ -1,9 +1,9 @@
 -- "not" of what was said, and of a refusal the refusal.
 use mathlib.Core.Path.{sym, ap}
-use Rattle.consult.specs.Consulted.{turned}
+use Rattle.memo.specs.Kept.{turned}
 use borrow.Author.Needs.{needs}
-use Rattle.consult.proofs.turned.Statement.{statement}
-use Rattle.consult.proofs.turned.Tie as tie
+use Rattle.memo.proofs.turned.Statement.{statement}
+use Rattle.memo.proofs.turned.Tie as tie
 
 enum-known-operand : tie.Need-enum-known-operand
 enum-known-operand c = search needs

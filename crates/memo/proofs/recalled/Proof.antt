@@ -2,8 +2,8 @@
 use mathlib.Core.Path.{sym}
 use lib.ListN.{List·getD-eq-default}
 use borrow.Author.Needs.{needs}
-use Rattle.consult.proofs.recalled.Statement.{statement}
-use Rattle.consult.proofs.recalled.Tie as tie
+use Rattle.memo.proofs.recalled.Statement.{statement}
+use Rattle.memo.proofs.recalled.Tie as tie
 
 shared-slice-read-result : tie.Need-shared-slice-read-result
 shared-slice-read-result c = search needs

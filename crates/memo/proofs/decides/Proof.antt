@@ -1,11 +1,11 @@
 -- A refusal is handed on; else "or" is decided by a yes, "and" by a no.
 use mathlib.Core.Path.{sym, ap, ap₂, _∙_}
 use mathlib.Core.Bool.{Bool, not, cond}
-use Rattle.consult.specs.Consulted.{decides}
-use Rattle.consult.proofs.Laws.{not-any}
+use Rattle.memo.specs.Kept.{decides}
+use Rattle.memo.proofs.Laws.{not-any}
 use borrow.Author.Needs.{needs}
-use Rattle.consult.proofs.decides.Statement.{statement}
-use Rattle.consult.proofs.decides.Tie as tie
+use Rattle.memo.proofs.decides.Statement.{statement}
+use Rattle.memo.proofs.decides.Tie as tie
 
 enum-known-first : tie.Need-enum-known-first
 enum-known-first c = search needs
