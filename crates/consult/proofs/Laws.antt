@@ -26,15 +26,17 @@ use Rattle.files.specs.SummaryFile.{summaryIn}
 use Rattle.files.specs.declared.Refusal.{Refusal}
 use Rattle.theory.proofs.CountLaws.{by-bool, by-eq, and-inv, each-every, every-at}
 use Rattle.theory.proofs.ShapeLaws.{well-parts, number-parts}
+use Rattle.entry.specs.declared.Reading.{Reading}
+use Rattle.entry.specs.declared.Reading.the-variants.{Malformed}
+use Rattle.entry.specs.Entries.{kindOf, entryAt}
+use Rattle.entry.proofs.Laws.{clash}
 use Rattle.question.specs.declared.Asked.{Asked}
 use Rattle.question.specs.declared.Asked.the-variants.{Said, Refused as NotSaid}
 use Rattle.question.specs.declared.Filled.{Filled}
-use Rattle.question.specs.declared.Reading.{Reading}
-use Rattle.question.specs.declared.Reading.the-variants.{Malformed}
 use Rattle.question.specs.declared.Spanned.{Spanned}
 use Rattle.question.specs.declared.Spanned.the-variants.{Tree, Refused}
-use Rattle.question.specs.Read.{kindOf, entryAt, Parsed, Spans}
-use Rattle.question.proofs.Laws.{clash, reads-first, forward, parsed-true, parsed-literal, parsed-not, parsed-and, parsed-or, parsed-least, parsed-one}
+use Rattle.question.specs.Read.{Parsed, Spans}
+use Rattle.question.proofs.Laws.{reads-first, forward, parsed-true, parsed-literal, parsed-not, parsed-and, parsed-or, parsed-least, parsed-one}
 use Rattle.question.proofs.Steps.{Two}
 use Rattle.memo.specs.Kept.{turned, any, decides, tell, slot}
 use Rattle.memo.proofs.Laws.{recalled-so, remembers-kept}

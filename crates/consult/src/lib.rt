@@ -1,5 +1,7 @@
 // Whether a question holds at a class of a summary: "whether an entry holds asks for a count of neighbours, and that count asks whether the
-// operand holds". Leans on question for the entries, on reader for the file's numbers, on seek for a class's rows and on memo for what was said.
+// operand holds". Leans on entry and question for what is asked, on reader for the file's numbers, on seek for a class's rows and on memo for
+// what was said.
+use entry::Reading;
 use files::Refusal;
 use meaning::Direction;
 use meaning::Kind;
@@ -7,7 +9,6 @@ use names::Class;
 use names::Group;
 use question::Asked;
 use question::Filled;
-use question::Reading;
 use question::Spanned;
 ghost use mathlib.Core.Path.{_≡_};
 ghost use mathlib.Core.Bool.{true, cond};
@@ -155,12 +156,12 @@ fn holds(
     ensures { λ r. ⌜ Holds (now (q .entry)) at (summaryIn (now (s .entry))) (class .0) r ⌝ }
     ensures known { λ _. ⌜ Remembers (now (q .entry)) (summaryIn (now (s .entry))) (now (known .exit)) ⌝ }
 {
-    let Reading::Entry(kind) = question::entry(q, at) else {
+    let Reading::Entry(kind) = entry::read(q, at) else {
         return Asked::Refused(Refusal::Question);
     };
     match kind {
         Kind::True => Asked::Said(true),
-        Kind::Literal(literal) => Asked::Said(question::shows(reader::marks(s, class), literal)),
+        Kind::Literal(literal) => Asked::Said(entry::shows(reader::marks(s, class), literal)),
         Kind::Not => memo::turned(holds(q, at + 1, s, keys, lowest, known, class)),
         Kind::And | Kind::Or => {
             let first = holds(q, at + 1, s, keys, lowest, known, class);

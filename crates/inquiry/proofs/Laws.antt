@@ -20,12 +20,14 @@ use Rattle.promise.proofs.Promise.{fault-accepted}
 use Rattle.files.specs.RegisterFile.{registerIn, fault}
 use Rattle.files.specs.QuestionFile.{question}
 use Rattle.files.specs.declared.Refusal.{Refusal}
-use Rattle.question.specs.declared.Reading.{Reading}
-use Rattle.question.specs.declared.Reading.the-variants.{Malformed}
+use Rattle.entry.specs.declared.Reading.{Reading}
+use Rattle.entry.specs.declared.Reading.the-variants.{Malformed}
+use Rattle.entry.specs.Entries.{kindOf, entryAt}
+use Rattle.entry.proofs.Laws.{clash, within-question}
 use Rattle.question.specs.declared.Spanned.{Spanned}
 use Rattle.question.specs.declared.Spanned.the-variants.{Tree, Refused}
-use Rattle.question.specs.Read.{kindOf, entryAt, Parsed, Spans}
-use Rattle.question.proofs.Laws.{clash, within-question, forward, ends, parsed-true, parsed-literal, parsed-not, parsed-and, parsed-or, parsed-least, parsed-one, parsed-question, question-length, everywhere, every-entry}
+use Rattle.question.specs.Read.{Parsed, Spans}
+use Rattle.question.proofs.Laws.{forward, ends, parsed-true, parsed-literal, parsed-not, parsed-and, parsed-or, parsed-least, parsed-one, parsed-question, question-length, everywhere, every-entry}
 use Rattle.table.specs.Row.{row, Writes, paired, Counts}
 use Rattle.question.specs.declared.Filled.{Filled}
 use Rattle.question.specs.declared.Filled.the-variants.{Done, Refused as NotFilled}

@@ -1,12 +1,12 @@
 // A question asked of a register. From the last entry to the first, it is kept for every entry and item whether the entry holds there,
 // so that an at-least inside another costs no more than one alone: about n + m steps an entry. Leans on table for the rows.
+use entry::Reading;
 use files::Refusal;
 use meaning::Direction;
 use meaning::Kind;
 use names::Item;
 use question::Asked;
 use question::Filled;
-use question::Reading;
 use question::Spanned;
 ghost use mathlib.Core.Path.{_≡_};
 ghost use mathlib.Core.Option.{some};
@@ -18,7 +18,7 @@ ghost use Rattle.meaning.specs.Register.{items, marksOf, neighbours};
 ghost use Rattle.meaning.specs.Question.{shows};
 ghost use Rattle.files.specs.RegisterFile.{registerIn, fault};
 ghost use Rattle.files.specs.QuestionFile.{question};
-ghost use Rattle.question.specs.Read.{entryAt};
+ghost use Rattle.entry.specs.Entries.{entryAt};
 ghost use Rattle.table.specs.Row.{Room, row, Writes};
 ghost use Rattle.register.specs.Told.{OfRegister};
 ghost use Rattle.inquiry.specs.Known.{Whole, Known, Fills, pairKind, asked, Said};
@@ -56,7 +56,7 @@ fn put_entry(table: &mut [bool], reg: &[u8], n: usize, m: usize, q: &[u8], j: us
     requires { ⌜ Room (now table) n j × OfRegister (now reg) n m × Whole (now q) × (j < length (now q) / 4) × Known (registerIn (now reg)) (now q) n (now table) (j + 1) ⌝ }
     ensures { λ r. ⌜ Fills r (registerIn (now (reg .entry))) (now (q .entry)) n (now (table .exit)) j ⌝ }
 {
-    let Reading::Entry(kind) = question::entry(q, j) else {
+    let Reading::Entry(kind) = entry::read(q, j) else {
         return Filled::Refused(Refusal::Question);
     };
     match kind {
@@ -110,7 +110,7 @@ fn put_literal(table: &mut [bool], reg: &[u8], n: usize, j: usize, literal: i8)
     let mut x = 0;
     while x < n {
         let marks = register::marks(reg, Item(x as u16));
-        table[1024 * j + x] = question::shows(marks, literal);
+        table[1024 * j + x] = entry::shows(marks, literal);
         x += 1;
     }
 }

@@ -1,4 +1,3 @@
--- Laws of an entry's bytes, of the tree that entries read as, and of the recursion that finds it.
-pub mod Codes
+-- Laws of the tree that entries read as, and of the recursion that finds it.
 pub mod Laws
 pub mod Steps

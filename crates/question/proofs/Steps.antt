@@ -19,12 +19,14 @@ use Rattle.meaning.proofs.Kind.{the-type}
 use Rattle.files.specs.QuestionFile.{question}
 use Rattle.files.specs.declared.Refusal.{Refusal}
 use Rattle.files.specs.declared.Refusal.the-variants.{Question as Malformation}
-use Rattle.question.specs.declared.Reading.{Reading}
-use Rattle.question.specs.declared.Reading.the-variants.{Entry, Malformed}
+use Rattle.entry.specs.declared.Reading.{Reading}
+use Rattle.entry.specs.declared.Reading.the-variants.{Malformed}
+use Rattle.entry.specs.Entries.{kindOf, entryAt}
+use Rattle.entry.proofs.Laws.{clash}
 use Rattle.question.specs.declared.Spanned.{Spanned}
 use Rattle.question.specs.declared.Spanned.the-variants.{Tree, Refused}
-use Rattle.question.specs.Read.{kindOf, entryAt, Parsed, p-true, p-literal, p-not, p-and, p-or, p-least, Spans, joined, raised, Shallow, accepted, refused, verdictBy, verdict}
-use Rattle.question.proofs.Laws.{clash, reads-first, forward, ends, shallow, under, parsed-one, parsed-question, question-length, question-parsed}
+use Rattle.question.specs.Read.{Parsed, p-true, p-literal, p-not, p-and, p-or, p-least, Spans, joined, raised, Shallow, accepted, refused, verdictBy, verdict}
+use Rattle.question.proofs.Laws.{reads-first, forward, ends, shallow, under, parsed-one, parsed-question, question-length, question-parsed}
 
 -- ---- kinds by their tags, as a pattern of two kinds tells them
 
@@ -98,12 +100,6 @@ module _ (q : List ℕ) (i : ℕ) where
   s-shallow (Refused r) h = tt
 
 -- ---- one answer only
-
-pub one-reading : (a b : Reading) → kindOf a ≡ kindOf b → a ≡ b
-one-reading (Entry k) (Entry m) e = let f : k ≡ m = cc in ap Entry f
-one-reading (Entry k) Malformed e = absurd (clash (sym e))
-one-reading Malformed (Entry m) e = absurd (clash e)
-one-reading Malformed Malformed e = refl
 
 pub one-span : (q : List ℕ) (i : ℕ) (a b : Spanned) → Spans q i a → Spans q i b → a ≡ b
 unfolding Spans

@@ -1,38 +1,21 @@
--- What the code's values say in document 01's terms: an entry of a question's bytes, the tree that stands at an entry, the verdict
--- on a whole question. Leans on files' QuestionFile for the table of entries and for the question that the bytes are.
+-- What the code's values say in document 01's terms: the tree that stands at an entry, the verdict on a whole question. Leans on
+-- entry for what is read of four bytes and on files' QuestionFile for the question that the bytes are.
 use mathlib.Core.Path.{_≡_}
-use mathlib.Core.Bool.{cond, _&&_}
 use mathlib.Core.List.{List}
 use mathlib.Core.Option.{Option, none, some}
-use Prim.Native.Nat.{ℕ, _+_, _*_, _<_, max}
-use lib.Dec.{eqb, leb}
+use Prim.Native.Nat.{ℕ, _+_, _<_, max}
 use lib.IntN.{ℤ}
-use lib.ListN.{length, getD}
 use Rattle.meaning.specs.Question.{Question, always, literal, negation, both, either, atLeast, depth, threshold}
 use Rattle.meaning.specs.declared.Direction.{Direction}
-use Rattle.meaning.specs.declared.Kind.{Kind}
 use Rattle.meaning.specs.declared.Kind.the-variants.{True, Literal, Not, And, Or, AtLeast}
-use Rattle.files.specs.QuestionFile.{kind, question}
+use Rattle.files.specs.QuestionFile.{question}
 use Rattle.files.specs.Refusals.{numberOf}
 use Rattle.files.specs.declared.Refusal.the-variants.{Question as Malformation}
-use Rattle.question.specs.declared.Reading.{Reading}
-use Rattle.question.specs.declared.Reading.the-variants.{Entry, Malformed}
+use Rattle.entry.specs.Entries.{entryAt}
 use Rattle.question.specs.declared.Spanned.{Spanned}
 use Rattle.question.specs.declared.Spanned.the-variants.{Tree, Refused}
 use Rattle.question.specs.declared.Judged.{Judged}
 use Rattle.question.specs.declared.Judged.the-variants as judged
-
--- a reading: the kind of a well-formed entry
-abbrev pub kindOf : Reading → Option Kind
-kindOf (Entry k) = some k
-kindOf Malformed = none
-
--- "entries of four bytes .. Bytes three and four are 0": entry number i, and none where the bytes end before it does
-unfoldable pub entryAt : List ℕ → ℕ → Option Kind
-entryAt q i =
-    cond (leb (4 * i + 4) (length q))
-    (cond (eqb (getD q (4 * i + 2) 0) 0 && eqb (getD q (4 * i + 3) 0) 0) (kind (getD q (4 * i) 0) (getD q (4 * i + 1) 0)) none)
-    none
 
 -- "root first, each operator followed by its operands": the tree that stands at entries i up to j
 pub data Parsed (q : List ℕ) : ℕ → Question → ℕ → Type 0 where

@@ -9,8 +9,8 @@ use lib.ListN.{length, getD}
 use Rattle.meaning.specs.Summary.{rowOf, lowestClass}
 use Rattle.meaning.specs.declared.Kind.the-variants.{Literal}
 use Rattle.files.specs.SummaryFile.{summaryIn}
-use Rattle.question.specs.Read.{entryAt}
-use Rattle.question.proofs.Laws.{is-entry, within-entry, literal-back, literal-read, least-read}
+use Rattle.entry.specs.Entries.{entryAt}
+use Rattle.entry.proofs.Laws.{is-entry, within-entry, literal-back, literal-read, least-read}
 use Rattle.question.proofs.Steps.{Two, two-of}
 use Rattle.reader.specs.Sized.{HasRow}
 use Rattle.wellformed.proofs.Laws.{well-file, sized-file}
@@ -37,8 +37,8 @@ use Rattle.memo.proofs.remember.Reads as remember-reads
 use Rattle.memo.proofs.slot_of.Reads as slot-of-reads
 use Rattle.consult.proofs.rows_of.Reads as rows-of-reads
 use Rattle.memo.proofs.turned.Reads as turned-reads
-use Rattle.question.proofs.entry.Reads as entry-reads
-use Rattle.question.proofs.shows.Reads as shows-reads
+use Rattle.entry.proofs.read.Reads as read-reads
+use Rattle.entry.proofs.shows.Reads as shows-reads
 use Rattle.question.proofs.span.Reads as span-reads
 use Rattle.reader.proofs.marks.Reads as marks-reads
 use Rattle.reader.proofs.row_count.Reads as row-count-reads
@@ -79,8 +79,8 @@ group-given t = (slot-of-reads.Asked, slot-of-reads.Learnt, recalled-reads.Asked
 
 abbrev holds-given : ℕ → holds-lts.Claims
 holds-given t = (
-  entry-reads.Asked,
-  entry-reads.Learnt,
+  read-reads.Asked,
+  read-reads.Learnt,
   marks-reads.Asked,
   marks-reads.Learnt,
   shows-reads.Asked,
@@ -167,13 +167,13 @@ abbrev start : (t : ℕ) → Known t → holds-lts.Start (holds-given t) (holds-
 start t c = c .before .before .before .before .before .before .before .before .before
 
 reads-as : (t : ℕ) (c : Known t) → entryAt (start t c .args .q .now) (start t c .args .at) ≡ some (c .before .kind .given .0 .0)
-reads-as t c = is-entry _ _ _ _ (c .before .before .before .entry .ensures) (c .before .kind .given .1)
+reads-as t c = is-entry _ _ _ _ (c .before .before .before .read .ensures) (c .before .kind .given .1)
 
 inside : (t : ℕ) (c : Known t) → start t c .args .at < length (start t c .args .q .now) / 4
-inside t c = within-entry _ _ _ _ (c .before .before .before .entry .ensures) (c .before .kind .given .1)
+inside t c = within-entry _ _ _ _ (c .before .before .before .read .ensures) (c .before .kind .given .1)
 
-holds-entry-requires : (t : ℕ) → holds-lts.Need-entry-requires (holds-given t) (holds-at t) holds.Post
-holds-entry-requires t c κs = search needs
+holds-read-requires : (t : ℕ) → holds-lts.Need-read-requires (holds-given t) (holds-at t) holds.Post
+holds-read-requires t c κs = search needs
 
 holds-enum-known-kind : (t : ℕ) → holds-lts.Need-enum-known-kind (holds-given t) (holds-at t) holds.Post
 holds-enum-known-kind t c = search needs
@@ -182,7 +182,7 @@ holds-enum-told : (t : ℕ) → holds-lts.Need-enum-told (holds-given t) (holds-
 holds-enum-told t c = search needs
 
 holds-returns : (t : ℕ) → holds-lts.Need-returns (holds-given t) (holds-at t) holds.Post
-holds-returns t c = (holds-none _ _ _ _ _ _ (c .before .before .entry .ensures) (c .enum-told .given .1), c .before .before .before .before .before .before .before .before .pre .1 .1)
+holds-returns t c = (holds-none _ _ _ _ _ _ (c .before .before .read .ensures) (c .enum-told .given .1), c .before .before .before .before .before .before .before .before .pre .1 .1)
 
 holds-enum-told-2 : (t : ℕ) → holds-lts.Need-enum-told-2 (holds-given t) (holds-at t) holds.Post
 holds-enum-told-2 t c = search needs
@@ -385,7 +385,7 @@ pub +group-holds+holds+neighbour-count-spec : {M : Type 1} → statement M
     (group-same-length-3 t)
     (group-returns-3 t))
     (λ t. holds-lts.spec (holds-given t) (holds-at t) holds.Post
-    (holds-entry-requires t)
+    (holds-read-requires t)
     (holds-enum-known-kind t)
     (holds-enum-told t)
     (holds-returns t)

@@ -1,6 +1,6 @@
 -- Each item of the row tells what its marks show.
 use lib.IntN.{ℤ}
-use Rattle.question.proofs.Laws.{literal-same}
+use Rattle.entry.proofs.Laws.{literal-same}
 use Rattle.inquiry.proofs.Laws.{writes-same}
 use mir.Syntax.{w8}
 use mir.Val.{toZ, ofZ}

@@ -7,8 +7,9 @@ use Prim.Native.Nat.{ℕ, _+_, _-_, _/_, _<_}
 use native.Mathlib.Omega.{arith}
 use lib.ListN.{length}
 use Rattle.question.specs.declared.Spanned.the-variants.{Tree}
-use Rattle.question.specs.Read.{entryAt, Spans}
-use Rattle.question.proofs.Laws.{is-entry, within-entry}
+use Rattle.question.specs.Read.{Spans}
+use Rattle.entry.specs.Entries.{entryAt}
+use Rattle.entry.proofs.Laws.{is-entry, within-entry}
 use Rattle.question.proofs.Steps.{leaf-of, two-of, s-none, s-leaf, s-not, s-least, s-two, s-two-none, s-bounds, s-shallow}
 use borrow.Author.Needs.{needs}
 use borrow.Fn.Kinds.{In}
@@ -16,7 +17,7 @@ use borrow.Fn.PlainCycle.{Measures, is, falls, and}
 use Rattle.question.proofs.span.Reads as span
 use Rattle.question.proofs.span.Kinds as span-kinds
 use Rattle.question.proofs.+span.Lts-span as span-lts
-use Rattle.question.proofs.entry.Reads as entry-reads
+use Rattle.entry.proofs.read.Reads as read-reads
 use Rattle.question.proofs.joined.Reads as joined-reads
 use Rattle.question.proofs.raised.Reads as raised-reads
 use Rattle.question.proofs.+span.{statement}
@@ -32,7 +33,7 @@ abbrev span-below : ℕ → In 1 span-kinds.ps
 span-below t = and 1 span-kinds.ps (falls 1 span-kinds.ps _<_ μ-span t) span.Pre
 
 abbrev span-given : ℕ → span-lts.Claims
-span-given t = (entry-reads.Asked, entry-reads.Learnt, span-below t, span.Post, joined-reads.Asked, joined-reads.Learnt, raised-reads.Asked, raised-reads.Learnt)
+span-given t = (read-reads.Asked, read-reads.Learnt, span-below t, span.Post, joined-reads.Asked, joined-reads.Learnt, raised-reads.Asked, raised-reads.Learnt)
 
 -- the place where the entry's kind is known: the question's bytes and the entry's number there
 abbrev Known : ℕ → Type 0
@@ -45,10 +46,10 @@ abbrev number-at : (t : ℕ) → Known t → ℕ
 number-at t c = c .before .before .before .before .before .args .at
 
 reads-as : (t : ℕ) (c : Known t) → entryAt (bytes-at t c) (number-at t c) ≡ some (c .before .kind .given .0 .0)
-reads-as t c = is-entry _ _ _ _ (c .before .before .before .entry .ensures) (c .before .kind .given .1)
+reads-as t c = is-entry _ _ _ _ (c .before .before .before .read .ensures) (c .before .kind .given .1)
 
 inside : (t : ℕ) (c : Known t) → number-at t c < length (bytes-at t c) / 4
-inside t c = within-entry _ _ _ _ (c .before .before .before .entry .ensures) (c .before .kind .given .1)
+inside t c = within-entry _ _ _ _ (c .before .before .before .read .ensures) (c .before .kind .given .1)
 
 left : (t : ℕ) (c : Known t) → length (bytes-at t c) / 4 - number-at t c ≡ t
 left t c = c .before .before .before .before .before .pre .0
@@ -59,8 +60,8 @@ first-operand : (t : ℕ) (c : span-lts.After-known-told2 (span-given t) (span-a
     (Tree (c .before .depth .given .0 .0) (c .before .depth .given .0 .1 .0) (c .before .depth .given .0 .1 .1 .0))
 first-operand t c = subst (Spans _ _) (c .before .depth .given .1) (c .before .before .before .span2 .ensures)
 
-span-entry-requires : (t : ℕ) → span-lts.Need-entry-requires (span-given t) (span-at t) span.Post
-span-entry-requires t c κs = search needs
+span-read-requires : (t : ℕ) → span-lts.Need-read-requires (span-given t) (span-at t) span.Post
+span-read-requires t c κs = search needs
 
 span-enum-known-kind : (t : ℕ) → span-lts.Need-enum-known-kind (span-given t) (span-at t) span.Post
 span-enum-known-kind t c = search needs
@@ -69,7 +70,7 @@ span-enum-told : (t : ℕ) → span-lts.Need-enum-told (span-given t) (span-at t
 span-enum-told t c = search needs
 
 span-returns : (t : ℕ) → span-lts.Need-returns (span-given t) (span-at t) span.Post
-span-returns t c = s-none _ _ _ (c .before .before .entry .ensures) (c .enum-told .given .1)
+span-returns t c = s-none _ _ _ (c .before .before .read .ensures) (c .enum-told .given .1)
 
 span-add-t11 : (t : ℕ) → span-lts.Need-add-t11 (span-given t) (span-at t) span.Post
 span-add-t11 t c = omega (arith, inside t (c .before))
@@ -141,7 +142,7 @@ pub +span-spec : {M : Type 1} → statement M
 +span-spec =
     close μ-span λ t.
     span-lts.spec (span-given t) (span-at t) span.Post
-    (span-entry-requires t)
+    (span-read-requires t)
     (span-enum-known-kind t)
     (span-enum-told t)
     (span-returns t)

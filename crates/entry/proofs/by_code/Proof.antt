@@ -2,10 +2,10 @@
 use mathlib.Core.Path.{ap, _∙_}
 use native.Mathlib.Omega.{arith}
 use mir.Facts.{toZ-ofZ}
-use Rattle.question.proofs.Codes.{literalOf, code-true, code-literal, code-not, code-and, code-or, code-outgoing, code-incoming, code-between, code-past}
+use Rattle.entry.proofs.Codes.{literalOf, code-true, code-literal, code-not, code-and, code-or, code-outgoing, code-incoming, code-between, code-past}
 use borrow.Author.Needs.{needs}
-use Rattle.question.proofs.by_code.Statement.{statement}
-use Rattle.question.proofs.by_code.Tie as tie
+use Rattle.entry.proofs.by_code.Statement.{statement}
+use Rattle.entry.proofs.by_code.Tie as tie
 
 plain-requires : tie.Need-plain-requires
 plain-requires c κs = search needs

@@ -5,9 +5,9 @@ use native.Mathlib.Omega.{arith}
 use lib.IntN.{ℤ}
 use mir.Facts.{toZ-ofZ}
 use Rattle.meaning.specs.declared.Kind.the-variants.{Literal}
-use Rattle.question.proofs.Codes.{is-zero, is-least, is-low, is-high, is-in}
-use Rattle.question.proofs.literal.Statement.{statement}
-use Rattle.question.proofs.literal.Tie as tie
+use Rattle.entry.proofs.Codes.{is-zero, is-least, is-low, is-high, is-in}
+use Rattle.entry.proofs.literal.Statement.{statement}
+use Rattle.entry.proofs.literal.Tie as tie
 
 returns : tie.Need-returns
 returns c = is-zero _ (c .before .fits .k) (c .if1 .taken)

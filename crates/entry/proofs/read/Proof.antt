@@ -1,10 +1,10 @@
--- `entry` reads within the question, and only where bytes three and four are 0.
+-- `read` reads within the question, and only where bytes three and four are 0.
 use mathlib.Core.Path.{_∙_}
 use native.Mathlib.Omega.{arith}
-use Rattle.question.proofs.Codes.{entry-past, entry-third, entry-fourth, entry-read}
+use Rattle.entry.proofs.Codes.{entry-past, entry-third, entry-fourth, entry-read}
 use borrow.Author.Needs.{needs}
-use Rattle.question.proofs.entry.Statement.{statement}
-use Rattle.question.proofs.entry.Tie as tie
+use Rattle.entry.proofs.read.Statement.{statement}
+use Rattle.entry.proofs.read.Tie as tie
 
 returns : tie.Need-returns
 returns c = entry-past _ _ (c .if1 .taken)
@@ -48,8 +48,8 @@ returns-4 c =
     let third = fourth .before .before in
     c .by-code .ensures ∙ entry-read _ _ (third .if2 .left) (fourth .if3 .left) (third .before .before .if1 .left)
 
-pub entry-spec : {M : Type 1} → statement M
-entry-spec =
+pub read-spec : {M : Type 1} → statement M
+read-spec =
     tie.close
     (tie.spec
     returns

@@ -1,8 +1,8 @@
 -- `plain` gives the kind where the second byte is 0.
-use Rattle.question.proofs.Codes.{not-when, when-yes}
+use Rattle.entry.proofs.Codes.{not-when, when-yes}
 use borrow.Author.Tests.{eq-eqb, ne-eqb}
-use Rattle.question.proofs.plain.Statement.{statement}
-use Rattle.question.proofs.plain.Tie as tie
+use Rattle.entry.proofs.plain.Statement.{statement}
+use Rattle.entry.proofs.plain.Tie as tie
 
 returns : tie.Need-returns
 returns c = when-yes _ _ (eq-eqb _ _ (c .if1 .taken))

@@ -2,8 +2,8 @@
 use mathlib.Core.Path.{refl}
 use Rattle.meaning.specs.Question.{bit}
 use borrow.Author.Needs.{needs}
-use Rattle.question.proofs.mark.Statement.{statement}
-use Rattle.question.proofs.mark.Tie as tie
+use Rattle.entry.proofs.mark.Statement.{statement}
+use Rattle.entry.proofs.mark.Tie as tie
 
 sub-result : tie.Need-sub-result
 sub-result c = search needs

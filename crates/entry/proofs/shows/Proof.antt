@@ -1,9 +1,9 @@
 -- `shows` negates where the literal is negative: its number is 1 to 32, so minus it fits. A signed value comes as the bits of it,
 -- read back.
 use native.Mathlib.Omega.{arith}
-use Rattle.question.proofs.Codes.{minus-fits, turned, not-mark, unturned, is-mark}
-use Rattle.question.proofs.shows.Statement.{statement}
-use Rattle.question.proofs.shows.Tie as tie
+use Rattle.entry.proofs.Codes.{minus-fits, turned, not-mark, unturned, is-mark}
+use Rattle.entry.proofs.shows.Statement.{statement}
+use Rattle.entry.proofs.shows.Tie as tie
 
 sub-mark : tie.Need-sub-mark
 sub-mark c = let s = c .before in minus-fits (s .args .literal) (s .fits .literal) (s .pre) (c .if1 .taken)

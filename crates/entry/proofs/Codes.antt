@@ -20,7 +20,7 @@ use Rattle.meaning.specs.declared.Direction.the-variants.{Outgoing, Incoming}
 use Rattle.meaning.specs.declared.Kind.{Kind}
 use Rattle.meaning.specs.declared.Kind.the-variants.{True, Literal, Not, And, Or, AtLeast}
 use Rattle.files.specs.QuestionFile.{signed, when, kind}
-use Rattle.question.specs.Read.{entryAt}
+use Rattle.entry.specs.Entries.{entryAt}
 
 -- ---- the signed byte
 

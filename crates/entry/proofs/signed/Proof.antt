@@ -2,10 +2,10 @@
 use native.Mathlib.Omega.{arith}
 use mir.Syntax.{w8}
 use mir.Facts.{toZ-ofZ}
-use Rattle.question.proofs.Codes.{low, high, made}
+use Rattle.entry.proofs.Codes.{low, high, made}
 use borrow.Author.Needs.{needs}
-use Rattle.question.proofs.signed.Statement.{statement}
-use Rattle.question.proofs.signed.Tie as tie
+use Rattle.entry.proofs.signed.Statement.{statement}
+use Rattle.entry.proofs.signed.Tie as tie
 
 cast-result : tie.Need-cast-result
 cast-result c = search needs

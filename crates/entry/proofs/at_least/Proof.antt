@@ -1,7 +1,7 @@
 -- `at_least` gives the kind where the threshold is 1 to 8.
-use Rattle.question.proofs.Codes.{not-when, when-yes, under, over, inside}
-use Rattle.question.proofs.at_least.Statement.{statement}
-use Rattle.question.proofs.at_least.Tie as tie
+use Rattle.entry.proofs.Codes.{not-when, when-yes, under, over, inside}
+use Rattle.entry.proofs.at_least.Statement.{statement}
+use Rattle.entry.proofs.at_least.Tie as tie
 
 returns : tie.Need-returns
 returns c = not-when _ _ (under 1 _ 8 (c .if1 .taken))
