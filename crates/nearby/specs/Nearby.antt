@@ -26,3 +26,12 @@ pub record Outs (R : Register) (outs : List ℕ) : Type 0 where
 pub record Ins (R : Register) (ins : List ℕ) : Type 0 where
   pub heads : (length ins ≡ 3072) → (x : ℕ) → x < items R → Last R Incoming x (length (R .links)) (getD ins x 0)
   pub nexts : (length ins ≡ 3072) → (k : ℕ) → k < length (R .links) → Last R Incoming (linkOf R k .target) k (getD ins (1024 + k) 0)
+
+-- no link below place j has a later source than x
+abbrev pub UpTo : Register → ℕ → ℕ → Type 0
+UpTo R x j = (k : ℕ) → k < j → linkOf R k .source ≤ x
+
+-- links below place `low` have no later source than x, and those from place `high` on have
+pub record Parts (R : Register) (x low high : ℕ) : Type 0 where
+  pub less : UpTo R x low
+  pub more : (k : ℕ) → high ≤ k → k < length (R .links) → x < linkOf R k .source
