@@ -47,22 +47,22 @@ fn ask_accepted(reg: &[u8], n: usize, m: usize, q: &[u8], item: u16) -> Said
     let judged = question::judge(q);
     match judged {
         question::Judged::Accepted {
-            depth: _,
+            depth,
             threshold: _,
-        } => ask_whole(reg, n, m, q, item),
+        } => ask_whole(reg, n, m, q, depth, item),
         question::Judged::Refused(refusal) => Said::Refused(refusal),
     }
 }
 
 // And the question is well formed: 8, and then the answer.
-fn ask_whole(reg: &[u8], n: usize, m: usize, q: &[u8], item: u16) -> Said
+fn ask_whole(reg: &[u8], n: usize, m: usize, q: &[u8], depth: usize, item: u16) -> Said
     requires { ⌜ OfRegister (now reg) n m × Whole (now q) ⌝ }
     ensures { λ r. ⌜ told r ≡ returned (askTree (now (reg .entry)) item (question (now (q .entry)))) ⌝ }
 {
     if n <= item as usize {
         return Said::Refused(Refusal::Item);
     }
-    let asked = inquiry::ask(reg, n, m, q, Item(item));
+    let asked = inquiry::ask(reg, n, m, q, depth, Item(item));
     match asked {
         Asked::Said(yes) => spoken(yes),
         Asked::Refused(refusal) => Said::Refused(refusal),

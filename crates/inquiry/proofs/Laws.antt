@@ -31,6 +31,9 @@ use Rattle.question.proofs.Laws.{forward, ends, parsed-true, parsed-literal, pa
 use Rattle.table.specs.Row.{row, Writes, paired, Counts}
 use Rattle.question.specs.declared.Filled.{Filled}
 use Rattle.question.specs.declared.Filled.the-variants.{Done, Refused as NotFilled}
+use Rattle.question.specs.declared.Asked.{Asked}
+use Rattle.question.specs.declared.Asked.the-variants.{Said}
+use Rattle.memo.specs.Kept.{Tells}
 use Rattle.inquiry.specs.Known.{Whole, Known, pairKind, asked}
 
 -- what is written is what it is equal to
@@ -102,6 +105,12 @@ known-from R q n t j k e known = subst (Known R q n t) e known
 pub known-all : (R : Register) (q : List ℕ) (n : ℕ) (t : List Bool) (x : ℕ) → Whole q → x < n → Known R q n t 0 → row t 0 x ≡ asked R (question q) x
 unfolding asked
 known-all R q n t x w h k = k .knows 0 (omega arith) (w .tree) (length q / 4) (parsed-question q (w .tree) (w .reads)) x h ∙ sym (rw (w .reads))
+
+-- what is said of the tree at entry 0 is said of the question
+pub told-so : (R : Register) (q : List ℕ) (x : ℕ) → Whole q → (r : Asked) → Tells q 0 (λ t. holds R t x) r → (b : Bool) → r ≡ Said b → Said b ≡ Said (asked R (question q) x)
+unfolding asked
+told-so R q x w r tells b e =
+    ap (λ (b : Bool). Said b) (tells (w .tree) (length q / 4) (parsed-question q (w .tree) (w .reads)) b e ∙ sym (ap (λ (o : Option Question). asked R o x) (w .reads)))
 
 -- of a well-formed question: at most 64 entries; each reads; the operands of an entry of two stand, and end within it
 module _ (q : List ℕ) (w : Whole q) where

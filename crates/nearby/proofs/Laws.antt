@@ -136,7 +136,7 @@ module _ (R : Register) (c : List ℕ) where
   ins-next k v few long h e u heads s =
       let t = set c (1024 + k) (getD c v 0) in (
         heads-next R Incoming t k v (target-near R k v e) (omega (arith, length-set c (1024 + k) (getD c v 0)))
-        (heads-kept R Incoming c k (1024 + k) (getD c v 0) (omega arith) heads),
+            (heads-kept R Incoming c k (1024 + k) (getD c v 0) (omega arith) heads),
         nexts-next k v (k + 1) few e u (omega arith) heads s,
       )
 

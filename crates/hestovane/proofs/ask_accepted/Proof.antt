@@ -9,25 +9,31 @@ use Rattle.hestovane.proofs.ask_accepted.Tie as tie
 judge-requires : tie.Need-judge-requires
 judge-requires c κs = search needs
 
-enum-told : tie.Need-enum-told
-enum-told c = search needs
+enum-known-judged : tie.Need-enum-known-judged
+enum-known-judged c = search needs
 
 ask-whole-requires : tie.Need-ask-whole-requires
 ask-whole-requires c κs =
-    let s = c .before .before .before .before .before in
-    (s .pre, whole _ _ _ (sym (ap told (c .enum-told .given .1)) ∙ c .before .before .judge .ensures))
+    let s = c .before .before .before .before .before .before in
+    (s .pre, whole _ _ _ (sym (ap told (c .before .judged .given .1)) ∙ c .before .before .before .judge .ensures))
 
-enum-known-judged : tie.Need-enum-known-judged
-enum-known-judged c = search needs
+enum-known-judged-2 : tie.Need-enum-known-judged-2
+enum-known-judged-2 c = search needs
 
 returns : tie.Need-returns
 returns c = search needs
 
 returns-2 : tie.Need-returns-2
 returns-2 c =
-    ask-malformed _ _ _ _ (sym (ap told (c .before .judged .given .1)) ∙ c .before .before .before .judge .ensures)
+    ask-malformed _ _ _ _ (sym (ap told (c .before .judged2 .given .1)) ∙ c .before .before .before .judge .ensures)
 
 pub ask-accepted-spec : {M : Type 1} → statement M
 ask-accepted-spec =
     tie.close
-    (tie.spec judge-requires enum-told ask-whole-requires enum-known-judged returns returns-2)
+    (tie.spec
+    judge-requires
+    enum-known-judged
+    ask-whole-requires
+    enum-known-judged-2
+    returns
+    returns-2)

@@ -1,0 +1,88 @@
+-- Where nothing is nested, no list of places is made; else those that pay.
+use native.Mathlib.Omega.{arith}
+use Rattle.memo.proofs.Laws.{remembers-none}
+use Rattle.descent.proofs.Laws.{no-outs, no-ins, outs-part, ins-part, zeros}
+use borrow.Author.Needs.{needs}
+use Rattle.descent.proofs.ask.Statement.{statement}
+use Rattle.descent.proofs.ask.Tie as tie
+use Rattle.descent.proofs.ask_deep.Reads as ask-deep-reads
+use Rattle.descent.proofs.holds.Reads as holds-reads
+use Rattle.descent.proofs.put_ins.Reads as put-ins-reads
+use Rattle.descent.proofs.put_outs.Reads as put-outs-reads
+
+slice-aggregate-holds : tie.Need-slice-aggregate-holds
+slice-aggregate-holds c = search needs
+
+slice-aggregate-holds-2 : tie.Need-slice-aggregate-holds-2
+slice-aggregate-holds-2 c = search needs
+
+slice-aggregate-holds-3 : tie.Need-slice-aggregate-holds-3
+slice-aggregate-holds-3 c = search needs
+
+slice-aggregate-holds-4 : tie.Need-slice-aggregate-holds-4
+slice-aggregate-holds-4 c = search needs
+
+holds-requires : tie.Need-holds-requires
+holds-requires c κs = let s = c .before .before .before .before .before .before .before .pre in (record { register = s .0; outs-are = no-outs _; ins-are = no-ins _ }, remembers-none _ _ 1 (omega arith), s .1)
+
+returns : tie.Need-returns
+returns c = c .before .before .holds .ensures .0
+
+slice-aggregate-put-outs : tie.Need-slice-aggregate-put-outs
+slice-aggregate-put-outs c = search needs
+
+put-outs-requires : tie.Need-put-outs-requires
+put-outs-requires c κs = (c .before .before .before .before .pre .0, search needs, zeros 1024)
+
+slice-aggregate-put-ins : tie.Need-slice-aggregate-put-ins
+slice-aggregate-put-ins c = search needs
+
+put-ins-requires : tie.Need-put-ins-requires
+put-ins-requires c κs = (c .before .before .before .before .before .before .before .pre .0, search needs, zeros 3072)
+
+sub-ask-deep : tie.Need-sub-ask-deep
+sub-ask-deep c = search needs
+
+part-ask-deep-start : tie.Need-part-ask-deep-start
+part-ask-deep-start c = search needs
+
+part-ask-deep-end : tie.Need-part-ask-deep-end
+part-ask-deep-end c = omega (arith, c .before .before .before .before .before .put-outs .ensures .0, c .before .before .before .before .before .put-outs .ensures .1)
+
+sub-ask-deep-2 : tie.Need-sub-ask-deep-2
+sub-ask-deep-2 c = search needs
+
+part-ask-deep-start-2 : tie.Need-part-ask-deep-start-2
+part-ask-deep-start-2 c = search needs
+
+part-ask-deep-end-2 : tie.Need-part-ask-deep-end-2
+part-ask-deep-end-2 c = omega (arith, c .before .before .before .before .put-ins .ensures .0, c .before .before .before .before .put-ins .ensures .1)
+
+ask-deep-requires : tie.Need-ask-deep-requires
+ask-deep-requires c κs = let s = c .before .before .before .before .before .before .before .before .before .before .before .before .before .pre in let o = c .before .before .before .before .before .before .before .before .put-outs .ensures in let i = c .before .before .before .before .before .put-ins .ensures in (record { register = s .0; outs-are = outs-part _ _ _ (o .0) (o .1) (o .2); ins-are = ins-part _ _ _ (i .0) (i .1) (i .2) }, s .1)
+
+returns-2 : tie.Need-returns-2
+returns-2 c = c .ask-deep .ensures
+
+pub ask-spec : {M : Type 1} → statement M
+ask-spec =
+    tie.close
+    (tie.spec
+    slice-aggregate-holds
+    slice-aggregate-holds-2
+    slice-aggregate-holds-3
+    slice-aggregate-holds-4
+    holds-requires
+    returns
+    slice-aggregate-put-outs
+    put-outs-requires
+    slice-aggregate-put-ins
+    put-ins-requires
+    sub-ask-deep
+    part-ask-deep-start
+    part-ask-deep-end
+    sub-ask-deep-2
+    part-ask-deep-start-2
+    part-ask-deep-end-2
+    ask-deep-requires
+    returns-2)
