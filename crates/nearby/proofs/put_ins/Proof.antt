@@ -27,7 +27,9 @@ index-requires : tie.Need-index-requires Inv-loop μ-loop
 index-requires c κs = search needs
 
 mul-ins : tie.Need-mul-ins Inv-loop μ-loop
-mul-ins c = search needs
+mul-ins c =
+    let s = c .before .before .before .before .before .before in
+    omega (arith, limits _ _ _ (s .pre .0), c .index .ensures, c .before .target .ensures .1)
 
 slice-read-ins : tie.Need-slice-read-ins Inv-loop μ-loop
 slice-read-ins c =
@@ -53,8 +55,8 @@ slice-write-ins c =
     let s = i .before .before .before .before .before .before in
     omega (arith, limits _ _ _ (s .pre .0), i .before .before .before .loop .inv .1, i .index .ensures, i .before .target .ensures .1)
 
-add-k : tie.Need-add-k Inv-loop μ-loop
-add-k c =
+add-ins-2 : tie.Need-add-ins-2 Inv-loop μ-loop
+add-ins-2 c =
     let i = c .before in
     let s = i .before .before .before .before .before .before in
     omega (arith, limits _ _ _ (s .pre .0), i .before .before .before .loop .inv .1, i .index .ensures, i .before .target .ensures .1)
@@ -76,6 +78,12 @@ slice-write-ins-2 c =
     let i = c .before in
     let s = i .before .before .before .before .before .before in
     simp length-set (omega (arith, limits _ _ _ (s .pre .0), i .before .before .before .loop .inv .1, i .index .ensures, i .before .target .ensures .1))
+
+add-k : tie.Need-add-k Inv-loop μ-loop
+add-k c =
+    let i = c .before in
+    let s = i .before .before .before .before .before .before in
+    omega (arith, limits _ _ _ (s .pre .0), i .before .before .before .loop .inv .1, i .index .ensures, i .before .target .ensures .1)
 
 loop-less : tie.Need-loop-less Inv-loop μ-loop
 loop-less c = omega arith
@@ -115,10 +123,11 @@ put-ins-spec =
     add-ins
     mul-ins-2
     slice-write-ins
-    add-k
+    add-ins-2
     cast-ins
     mul-ins-3
     slice-write-ins-2
+    add-k
     loop-less
     loop-again
     same-length
