@@ -38,16 +38,10 @@ slice-read-ins c =
     omega (arith, limits _ _ _ (s .pre .0), i .before .before .before .loop .inv .1, i .index .ensures, i .before .target .ensures .1)
 
 add-ins : tie.Need-add-ins Inv-loop μ-loop
-add-ins c =
-    let i = c .before in
-    let s = i .before .before .before .before .before .before in
-    omega (arith, limits _ _ _ (s .pre .0), i .before .before .before .loop .inv .1, i .index .ensures, i .before .target .ensures .1)
+add-ins c = let s = c .before .before .before .before .before .before .before in omega (arith, limits _ _ _ (s .pre .0))
 
 mul-ins-2 : tie.Need-mul-ins-2 Inv-loop μ-loop
-mul-ins-2 c =
-    let i = c .before in
-    let s = i .before .before .before .before .before .before in
-    omega (arith, limits _ _ _ (s .pre .0), i .before .before .before .loop .inv .1, i .index .ensures, i .before .target .ensures .1)
+mul-ins-2 c = let s = c .before .before .before .before .before .before .before in omega (arith, limits _ _ _ (s .pre .0))
 
 slice-write-ins : tie.Need-slice-write-ins Inv-loop μ-loop
 slice-write-ins c =
@@ -56,16 +50,10 @@ slice-write-ins c =
     omega (arith, limits _ _ _ (s .pre .0), i .before .before .before .loop .inv .1, i .index .ensures, i .before .target .ensures .1)
 
 add-ins-2 : tie.Need-add-ins-2 Inv-loop μ-loop
-add-ins-2 c =
-    let i = c .before in
-    let s = i .before .before .before .before .before .before in
-    omega (arith, limits _ _ _ (s .pre .0), i .before .before .before .loop .inv .1, i .index .ensures, i .before .target .ensures .1)
+add-ins-2 c = let s = c .before .before .before .before .before .before .before in omega (arith, limits _ _ _ (s .pre .0))
 
 cast-ins : tie.Need-cast-ins Inv-loop μ-loop
-cast-ins c =
-    let i = c .before in
-    let s = i .before .before .before .before .before .before in
-    omega (arith, limits _ _ _ (s .pre .0), i .before .before .before .loop .inv .1, i .index .ensures, i .before .target .ensures .1)
+cast-ins c = let s = c .before .before .before .before .before .before .before in omega (arith, limits _ _ _ (s .pre .0))
 
 mul-ins-3 : tie.Need-mul-ins-3 Inv-loop μ-loop
 mul-ins-3 c =
@@ -80,10 +68,7 @@ slice-write-ins-2 c =
     simp length-set (omega (arith, limits _ _ _ (s .pre .0), i .before .before .before .loop .inv .1, i .index .ensures, i .before .target .ensures .1))
 
 add-k : tie.Need-add-k Inv-loop μ-loop
-add-k c =
-    let i = c .before in
-    let s = i .before .before .before .before .before .before in
-    omega (arith, limits _ _ _ (s .pre .0), i .before .before .before .loop .inv .1, i .index .ensures, i .before .target .ensures .1)
+add-k c = let s = c .before .before .before .before .before .before .before in omega (arith, limits _ _ _ (s .pre .0))
 
 loop-less : tie.Need-loop-less Inv-loop μ-loop
 loop-less c = omega arith
