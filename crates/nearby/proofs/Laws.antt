@@ -1,7 +1,7 @@
 -- What the links found from the last to the first say of a count of neighbours; and one turn of each loop that finds them, over
 -- registers and lists. Leans on theory for counts by place, and on promise for what an accepted register has.
 use mathlib.Core.Path.{_≡_, refl, sym, ap, _∙_}
-use mathlib.Core.Bool.{Bool, true, false, cond, _&&_}
+use mathlib.Core.Bool.{Bool, false, cond, _&&_}
 use mathlib.Core.Logic.{inl, inr}
 use mathlib.Core.List.{List}
 use Prim.Native.Nat.{ℕ, zero, suc, _+_, _-_, _≤_, _<_}
@@ -136,7 +136,7 @@ module _ (R : Register) (c : List ℕ) where
   ins-next k v few long h e u heads s =
       let t = set c (1024 + k) (getD c v 0) in (
         heads-next R Incoming t k v (target-near R k v e) (omega (arith, length-set c (1024 + k) (getD c v 0)))
-        (heads-kept R Incoming c k (1024 + k) (getD c v 0) (omega arith) heads),
+            (heads-kept R Incoming c k (1024 + k) (getD c v 0) (omega arith) heads),
         nexts-next k v (k + 1) few e u (omega arith) heads s,
       )
 
@@ -170,7 +170,8 @@ module _ (b : List ℕ) (n m x : ℕ) (o : OfRegister b n m) where
   pub parts-none : Parts (registerIn b) x 0 m
   parts-none = record { less = λ k h. absurd (omega arith); more = λ k h u. absurd (omega (arith, o .links-are)) }
 
-  pub parts-up : (low high p : ℕ) → p < m → linkOf (registerIn b) p .source ≤ x → Parts (registerIn b) x low high → Parts (registerIn b) x (p + 1) high
+  pub parts-up : (low high p : ℕ) → p < m → linkOf (registerIn b) p .source ≤ x → Parts (registerIn b) x low high →
+      Parts (registerIn b) x (p + 1) high
   parts-up low high p h e s = record { less = λ k u. omega (arith, rise k p (omega arith) h); more = s .more }
 
   pub parts-down : (low high p : ℕ) → x < linkOf (registerIn b) p .source → Parts (registerIn b) x low high → Parts (registerIn b) x low p
@@ -186,7 +187,8 @@ module _ (b : List ℕ) (n m x : ℕ) (o : OfRegister b n m) where
   unfolding near
   ending-own j h e = record { low = omega arith; gap = λ k u v. absurd (omega arith); own = inr e }
 
-  pub ending-not : (j : ℕ) → 1 ≤ j → j ≤ m → UpTo (registerIn b) x j → (linkOf (registerIn b) (j - 1) .source ≡ x → ⊥) → Last (registerIn b) Outgoing x j 0
+  pub ending-not : (j : ℕ) → 1 ≤ j → j ≤ m → UpTo (registerIn b) x j → (linkOf (registerIn b) (j - 1) .source ≡ x → ⊥) →
+      Last (registerIn b) Outgoing x j 0
   unfolding near
   ending-not j h u up e =
       let below : linkOf (registerIn b) (j - 1) .source < x = omega (arith, up (j - 1) (omega arith), e) in
@@ -238,7 +240,8 @@ module _ (b : List ℕ) (n m x : ℕ) (o : OfRegister b n m) (c : List ℕ) wher
   pub read-in : (i : ℕ) → Ins (registerIn b) c → length c ≡ 3072 → x < n → i ≡ x → Last (registerIn b) Incoming x m (getD c i 0)
   read-in i s long h e = rw (e, o .links-are) (s .heads long x (omega (arith, o .items-are)))
 
-  pub read-next : (k : ℕ) → Ins (registerIn b) c → length c ≡ 3072 → k < m → linkOf (registerIn b) k .target ≡ x → Last (registerIn b) Incoming x k (getD c (1024 + k) 0)
+  pub read-next : (k : ℕ) → Ins (registerIn b) c → length c ≡ 3072 → k < m → linkOf (registerIn b) k .target ≡ x →
+      Last (registerIn b) Incoming x k (getD c (1024 + k) 0)
   read-next k s long h e = rw (← e) (s .nexts long k (omega (arith, o .links-are)))
 
 -- ---- for a caller: a list of zeros to fill, and a list too short to say anything

@@ -51,9 +51,12 @@ loop-less c = omega arith
 loop-again : tie.Need-loop-again Inv-loop μ-loop
 loop-again c =
     let s = c .before .before .before .before .before .before in
-    let l = c .before .before .before .loop in
-    (omega arith, simp length-set (l .inv .1), heads-next _ _ _ _ _ (source-near _ _ _ (c .index .ensures ∙ c .before .source .ensures .0))
-    (omega (arith, l .inv .1, limits _ _ _ (s .pre .0) .0, c .index .ensures, c .before .source .ensures .1)) (l .inv .2))
+    let l = c .before .before .before .loop in (
+      omega arith,
+      simp length-set (l .inv .1),
+      heads-next _ _ _ _ _ (source-near _ _ _ (c .index .ensures ∙ c .before .source .ensures .0))
+          (omega (arith, l .inv .1, limits _ _ _ (s .pre .0) .0, c .index .ensures, c .before .source .ensures .1)) (l .inv .2),
+    )
 
 same-length : tie.Need-same-length Inv-loop μ-loop
 same-length c = omega arith
