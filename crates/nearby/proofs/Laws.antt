@@ -1,14 +1,14 @@
 -- What the links found from the last to the first say of a count of neighbours; and one turn of each loop that finds them, over
 -- registers and lists. Leans on theory for counts by place, and on promise for what an accepted register has.
 use mathlib.Core.Path.{_≡_, refl, sym, ap, _∙_}
-use mathlib.Core.Bool.{Bool, true, false, cond, _&&_}
+use mathlib.Core.Bool.{Bool, false, cond, _&&_}
 use mathlib.Core.Logic.{inl, inr}
 use mathlib.Core.List.{List}
 use Prim.Native.Nat.{ℕ, zero, suc, _+_, _-_, _≤_, _<_}
 use native.Mathlib.Omega.{arith}
 use borrow.Author.Tests.{ltb-true, ltb-false, eq-eqb, ne-eqb}
 use lib.Dec.{eqb, ltb}
-use lib.ListN.{length, getD, set, length-set}
+use lib.ListN.{length, getD, set, replicate, length-set}
 use lib.Seq.{getD-set-same, getD-set-other}
 use Rattle.meaning.specs.Count.{sum, tally, each, ascends}
 use Rattle.meaning.specs.Register.{Register, noLink, items, linkOf, near, far, leads, neighbours}
@@ -170,7 +170,8 @@ module _ (b : List ℕ) (n m x : ℕ) (o : OfRegister b n m) where
   pub parts-none : Parts (registerIn b) x 0 m
   parts-none = record { less = λ k h. absurd (omega arith); more = λ k h u. absurd (omega (arith, o .links-are)) }
 
-  pub parts-up : (low high p : ℕ) → p < m → linkOf (registerIn b) p .source ≤ x → Parts (registerIn b) x low high → Parts (registerIn b) x (p + 1) high
+  pub parts-up : (low high p : ℕ) → p < m → linkOf (registerIn b) p .source ≤ x → Parts (registerIn b) x low high →
+      Parts (registerIn b) x (p + 1) high
   parts-up low high p h e s = record { less = λ k u. omega (arith, rise k p (omega arith) h); more = s .more }
 
   pub parts-down : (low high p : ℕ) → x < linkOf (registerIn b) p .source → Parts (registerIn b) x low high → Parts (registerIn b) x low p
@@ -186,7 +187,8 @@ module _ (b : List ℕ) (n m x : ℕ) (o : OfRegister b n m) where
   unfolding near
   ending-own j h e = record { low = omega arith; gap = λ k u v. absurd (omega arith); own = inr e }
 
-  pub ending-not : (j : ℕ) → 1 ≤ j → j ≤ m → UpTo (registerIn b) x j → (linkOf (registerIn b) (j - 1) .source ≡ x → ⊥) → Last (registerIn b) Outgoing x j 0
+  pub ending-not : (j : ℕ) → 1 ≤ j → j ≤ m → UpTo (registerIn b) x j → (linkOf (registerIn b) (j - 1) .source ≡ x → ⊥) →
+      Last (registerIn b) Outgoing x j 0
   unfolding near
   ending-not j h u up e =
       let below : linkOf (registerIn b) (j - 1) .source < x = omega (arith, up (j - 1) (omega arith), e) in
@@ -238,5 +240,19 @@ module _ (b : List ℕ) (n m x : ℕ) (o : OfRegister b n m) (c : List ℕ) wher
   pub read-in : (i : ℕ) → Ins (registerIn b) c → length c ≡ 3072 → x < n → i ≡ x → Last (registerIn b) Incoming x m (getD c i 0)
   read-in i s long h e = rw (e, o .links-are) (s .heads long x (omega (arith, o .items-are)))
 
-  pub read-next : (k : ℕ) → Ins (registerIn b) c → length c ≡ 3072 → k < m → linkOf (registerIn b) k .target ≡ x → Last (registerIn b) Incoming x k (getD c (1024 + k) 0)
+  pub read-next : (k : ℕ) → Ins (registerIn b) c → length c ≡ 3072 → k < m → linkOf (registerIn b) k .target ≡ x →
+      Last (registerIn b) Incoming x k (getD c (1024 + k) 0)
   read-next k s long h e = rw (← e) (s .nexts long k (omega (arith, o .links-are)))
+
+-- ---- for a caller: a list of zeros to fill, and a list too short to say anything
+
+pub zeros : (n i : ℕ) → getD {A = ℕ} (replicate n 0) i 0 ≡ 0
+zeros zero i = refl
+zeros (suc n) zero = refl
+zeros (suc n) (suc i) = zeros n i
+
+pub no-outs : (R : Register) (c : List ℕ) → length c < 1024 → Outs R c
+no-outs R c h = record { are = λ long x u. absurd (omega arith) }
+
+pub no-ins : (R : Register) (c : List ℕ) → length c < 3072 → Ins R c
+no-ins R c h = record { heads = λ long x u. absurd (omega arith); nexts = λ long k u. absurd (omega arith) }

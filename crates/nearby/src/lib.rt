@@ -19,8 +19,8 @@ pub fn put_outs(reg: &[u8], n: usize, m: usize, outs: &mut [u16])
     let mut k = 0;
     while k < m {
         let at = register::source(reg, n, k).index();
+        outs[at] = (k + 1) as u16;
         k += 1;
-        outs[at] = k as u16;
     }
 }
 
@@ -33,8 +33,8 @@ pub fn put_ins(reg: &[u8], n: usize, m: usize, ins: &mut [u16])
     while k < m {
         let at = register::target(reg, n, k).index();
         ins[1024 + k] = ins[at];
+        ins[at] = (k + 1) as u16;
         k += 1;
-        ins[at] = k as u16;
     }
 }
 

@@ -1,5 +1,5 @@
 -- No link passed has x for its target.
-use mathlib.Core.Path.{_≡_, sym, _∙_}
+use mathlib.Core.Path.{sym, _∙_}
 use Prim.Native.Nat.{_≤_}
 use native.Mathlib.Omega.{arith}
 use Rattle.files.specs.RegisterFile.{registerIn}

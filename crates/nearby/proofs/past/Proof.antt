@@ -1,8 +1,6 @@
 -- Links below low have no later source than x, and those from high on have.
-use mathlib.Core.Path.{_≡_}
-use Prim.Native.Nat.{_-_, _≤_, _<_}
+use Prim.Native.Nat.{_-_, _≤_}
 use native.Mathlib.Omega.{arith}
-use Rattle.meaning.specs.Register.{linkOf}
 use Rattle.files.specs.RegisterFile.{registerIn}
 use Rattle.nearby.specs.Nearby.{Parts}
 use Rattle.nearby.proofs.Laws.{has-link, parts-none, parts-up, parts-down, parts-met}
@@ -37,7 +35,8 @@ loop-again : tie.Need-loop-again Inv-loop μ-loop
 loop-again c =
     let i = c .before .before .before .before .before .loop .inv in
     let s = c .before .before .before .before .before .before .before in
-    (omega arith, omega arith, parts-up _ _ _ _ (s .pre) _ _ _ (omega arith) (omega (arith, c .before .before .before .source .ensures .0, c .if1 .taken)) (i .2))
+    let e = c .before .before .before .source .ensures .0 in
+    (omega arith, omega arith, parts-up _ _ _ _ (s .pre) _ _ _ (omega arith) (omega (arith, e, c .if1 .taken)) (i .2))
 
 loop-less-2 : tie.Need-loop-less-2 Inv-loop μ-loop
 loop-less-2 c = omega arith
@@ -46,7 +45,8 @@ loop-again-2 : tie.Need-loop-again-2 Inv-loop μ-loop
 loop-again-2 c =
     let i = c .before .before .before .before .before .loop .inv in
     let s = c .before .before .before .before .before .before .before in
-    (omega arith, omega arith, parts-down _ _ _ _ (s .pre) _ _ _ (omega (arith, c .before .before .before .source .ensures .0, c .if1 .left)) (i .2))
+    let e = c .before .before .before .source .ensures .0 in
+    (omega arith, omega arith, parts-down _ _ _ _ (s .pre) _ _ _ (omega (arith, e, c .if1 .left)) (i .2))
 
 returns : tie.Need-returns Inv-loop μ-loop
 returns c =

@@ -27,7 +27,9 @@ index-requires : tie.Need-index-requires Inv-loop μ-loop
 index-requires c κs = search needs
 
 mul-ins : tie.Need-mul-ins Inv-loop μ-loop
-mul-ins c = search needs
+mul-ins c =
+    let s = c .before .before .before .before .before .before in
+    omega (arith, limits _ _ _ (s .pre .0), c .index .ensures, c .before .target .ensures .1)
 
 slice-read-ins : tie.Need-slice-read-ins Inv-loop μ-loop
 slice-read-ins c =
@@ -36,16 +38,10 @@ slice-read-ins c =
     omega (arith, limits _ _ _ (s .pre .0), i .before .before .before .loop .inv .1, i .index .ensures, i .before .target .ensures .1)
 
 add-ins : tie.Need-add-ins Inv-loop μ-loop
-add-ins c =
-    let i = c .before in
-    let s = i .before .before .before .before .before .before in
-    omega (arith, limits _ _ _ (s .pre .0), i .before .before .before .loop .inv .1, i .index .ensures, i .before .target .ensures .1)
+add-ins c = let s = c .before .before .before .before .before .before .before in omega (arith, limits _ _ _ (s .pre .0))
 
 mul-ins-2 : tie.Need-mul-ins-2 Inv-loop μ-loop
-mul-ins-2 c =
-    let i = c .before in
-    let s = i .before .before .before .before .before .before in
-    omega (arith, limits _ _ _ (s .pre .0), i .before .before .before .loop .inv .1, i .index .ensures, i .before .target .ensures .1)
+mul-ins-2 c = let s = c .before .before .before .before .before .before .before in omega (arith, limits _ _ _ (s .pre .0))
 
 slice-write-ins : tie.Need-slice-write-ins Inv-loop μ-loop
 slice-write-ins c =
@@ -53,17 +49,11 @@ slice-write-ins c =
     let s = i .before .before .before .before .before .before in
     omega (arith, limits _ _ _ (s .pre .0), i .before .before .before .loop .inv .1, i .index .ensures, i .before .target .ensures .1)
 
-add-k : tie.Need-add-k Inv-loop μ-loop
-add-k c =
-    let i = c .before in
-    let s = i .before .before .before .before .before .before in
-    omega (arith, limits _ _ _ (s .pre .0), i .before .before .before .loop .inv .1, i .index .ensures, i .before .target .ensures .1)
+add-ins-2 : tie.Need-add-ins-2 Inv-loop μ-loop
+add-ins-2 c = let s = c .before .before .before .before .before .before .before in omega (arith, limits _ _ _ (s .pre .0))
 
 cast-ins : tie.Need-cast-ins Inv-loop μ-loop
-cast-ins c =
-    let i = c .before in
-    let s = i .before .before .before .before .before .before in
-    omega (arith, limits _ _ _ (s .pre .0), i .before .before .before .loop .inv .1, i .index .ensures, i .before .target .ensures .1)
+cast-ins c = let s = c .before .before .before .before .before .before .before in omega (arith, limits _ _ _ (s .pre .0))
 
 mul-ins-3 : tie.Need-mul-ins-3 Inv-loop μ-loop
 mul-ins-3 c =
@@ -76,6 +66,9 @@ slice-write-ins-2 c =
     let i = c .before in
     let s = i .before .before .before .before .before .before in
     simp length-set (omega (arith, limits _ _ _ (s .pre .0), i .before .before .before .loop .inv .1, i .index .ensures, i .before .target .ensures .1))
+
+add-k : tie.Need-add-k Inv-loop μ-loop
+add-k c = let s = c .before .before .before .before .before .before .before in omega (arith, limits _ _ _ (s .pre .0))
 
 loop-less : tie.Need-loop-less Inv-loop μ-loop
 loop-less c = omega arith
@@ -115,10 +108,11 @@ put-ins-spec =
     add-ins
     mul-ins-2
     slice-write-ins
-    add-k
+    add-ins-2
     cast-ins
     mul-ins-3
     slice-write-ins-2
+    add-k
     loop-less
     loop-again
     same-length

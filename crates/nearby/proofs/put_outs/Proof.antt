@@ -26,8 +26,8 @@ source-requires c κs = let s = c .before .before .before .before in has-link _ 
 index-requires : tie.Need-index-requires Inv-loop μ-loop
 index-requires c κs = search needs
 
-add-k : tie.Need-add-k Inv-loop μ-loop
-add-k c = omega arith
+add-outs : tie.Need-add-outs Inv-loop μ-loop
+add-outs c = let s = c .before .before .before .before .before .before in omega (arith, limits _ _ _ (s .pre .0) .1)
 
 cast-outs : tie.Need-cast-outs Inv-loop μ-loop
 cast-outs c = let s = c .before .before .before .before .before .before in omega (arith, limits _ _ _ (s .pre .0) .1)
@@ -41,6 +41,9 @@ slice-write-outs : tie.Need-slice-write-outs Inv-loop μ-loop
 slice-write-outs c =
     let s = c .before .before .before .before .before .before in
     omega (arith, limits _ _ _ (s .pre .0) .0, c .index .ensures, c .before .source .ensures .1)
+
+add-k : tie.Need-add-k Inv-loop μ-loop
+add-k c = omega arith
 
 loop-less : tie.Need-loop-less Inv-loop μ-loop
 loop-less c = omega arith
@@ -74,10 +77,11 @@ put-outs-spec =
     loop-holds
     source-requires
     index-requires
-    add-k
+    add-outs
     cast-outs
     mul-outs
     slice-write-outs
+    add-k
     loop-less
     loop-again
     same-length
