@@ -1,31 +1,28 @@
--- Laws of ascending keys: a search by halves, what a place that it finds says, marks set at keys, and when two ascending lists are one.
+-- Laws of ascending keys: a search, what a place that it finds says, where classes start, marks set at keys, and when two ascending
+-- lists are one.
 -- Leans on Count's laws.
 use mathlib.Core.Path.{_≡_, refl, sym, ap, _∙_}
 use mathlib.Core.Bool.{Bool, true, false, _&&_, _||_, or-true, or-false}
 use mathlib.Core.Logic.{⊎-elim}
 use mathlib.Core.List.{List, [], _∷_, _++_}
-use Prim.Native.Nat.{ℕ, zero, suc, _+_, _≤_, _<_}
+use Prim.Native.Nat.{ℕ, zero, suc, _+_, _/_, _≤_, _<_, min}
 use native.Mathlib.Omega.{arith}
 use native.Mathlib.Numerals.{add-one}
 use borrow.Author.Tests.{lt-ltb, ltb-true, ltb-false, eq-eqb, ne-eqb, eqb-true}
 use lib.Dec.{eqb, ltb}
-use lib.ListN.{length, getD, take, set}
+use lib.ListN.{length, getD, take, set, length-set}
 use lib.Seq.{take-suc, length-take-le, getD-take, getD-set-same, getD-set-other}
 use Rattle.meaning.specs.Count.{all, tab, any, each, ascends}
 use Rattle.theory.proofs.CountLaws.{by-bool, no, and-inv, and-yes, or-inv, bool-iff, eqb-sym, by-eq, all-yes, all-no, all-at, any-append, any-some, any-at, each-tab, every-and, each-every, each-yes, ascends-above, ascends-rest, ascends-at}
 use Rattle.theory.proofs.ShapeLaws.{any-place}
 use Rattle.lists.proofs.Laws.{front}
-use Rattle.seek.specs.Keys.{sameMembers, Stands, Marks}
+use Rattle.seek.specs.Keys.{sameMembers, Stands, Parted, keyClass, Splits, Laid, Marks}
 
 -- the keys ascend
 abbrev Up : List ℕ → Type 0
 Up ks = ascends (λ k. k) ks ≡ true
 
 -- ---- the search: keys before low are less than the key, and none from high on is
-
-pub record Parted (ks : List ℕ) (key low high : ℕ) : Type 0 where
-  pub less : (i : ℕ) → i < low → getD ks i 0 < key
-  pub rest : (i : ℕ) → high ≤ i → i < length ks → key ≤ getD ks i 0
 
 module _ (ks : List ℕ) (key : ℕ) where
   pub parted-none : (n : ℕ) → length ks ≡ n → Parted ks key 0 n
@@ -48,6 +45,106 @@ module _ (ks : List ℕ) (key : ℕ) where
 
   pub parted-stands : (low high : ℕ) → low ≡ high → low ≤ length ks → Parted ks key low high → Stands ks key low
   parted-stands low high e h p = record { within = h; before = p .less; behind = λ i k l. p .rest i (omega arith) l }
+
+-- ---- where classes start
+
+-- a key of a lesser class is less, and classes ascend with the keys
+class-less : (x y : ℕ) → keyClass x < keyClass y → x < y
+unfolding keyClass
+class-less x y h = omega arith
+
+class-up : (x y : ℕ) → x ≤ y → keyClass x ≤ keyClass y
+unfolding keyClass
+class-up x y h = omega arith
+
+pub class-most : (x : ℕ) → keyClass x ≤ 1023
+unfolding keyClass
+class-most x = omega arith
+
+pub class-low : (x : ℕ) → x / 4294967296 < 1023 → x / 4294967296 ≡ keyClass x
+unfolding keyClass
+class-low x h = omega arith
+
+pub class-high : (x : ℕ) → 1023 ≤ x / 4294967296 → 1023 ≡ keyClass x
+unfolding keyClass
+class-high x h = omega arith
+
+-- the starts of the classes below c are laid, and the i keys passed are of those classes
+pub record Begun (starts ks : List ℕ) (c i : ℕ) : Type 0 where
+  pub start : (k : ℕ) → k < c → Splits ks k (getD starts k 0)
+  pub passed : (j : ℕ) → j < i → keyClass (getD ks j 0) < c
+
+module _ (ks starts : List ℕ) where
+  pub begun-none : Begun starts ks 0 0
+  begun-none = record { start = λ k h. absurd (omega arith); passed = λ j h. absurd (omega arith) }
+
+  pub begun-pass : (c i : ℕ) → keyClass (getD ks i 0) < c → Begun starts ks c i → Begun starts ks c (i + 1)
+  begun-pass c i t b =
+      record {
+        start = b .start;
+        passed = λ j h. by-eq j i (λ e. rw e t) (λ e. b .passed j (omega arith));
+      }
+
+  -- class c starts at i where the keys before are of lesser classes and none from there on is
+  laid-at : (c i : ℕ) → c < length starts → i ≤ length ks → ((j : ℕ) → i ≤ j → j < length ks → c ≤ keyClass (getD ks j 0)) → Begun starts ks c i
+      → (k : ℕ) → k ≤ c → Splits ks k (getD (set starts c i) k 0)
+  laid-at c i h l t b k u =
+      by-eq k c
+      (λ e. rw (e, getD-set-same starts c i 0 h) (record { within = l; before = b .passed; behind = t }))
+      (λ e. rw (getD-set-other starts c k i 0 e) (b .start k (omega arith)))
+
+  pub begun-lay : (c i : ℕ) → c < length starts → i < length ks → Up ks → c ≤ keyClass (getD ks i 0) → Begun starts ks c i → Begun (set starts c i) ks (c + 1) i
+  begun-lay c i h l u t b =
+      record {
+        start = λ k v. laid-at c i h (omega arith) (λ j p q. from j p q) b k (omega arith);
+        passed = λ j v. omega (arith, b .passed j v);
+      }
+    where
+      from : (j : ℕ) → i ≤ j → j < length ks → c ≤ keyClass (getD ks j 0)
+      from j p q =
+          by-eq i j
+          (λ e. rw (← e) t)
+          (λ e. omega (arith, t, class-up (getD ks i 0) (getD ks j 0) (omega (arith, ascends-at (λ k. k) 0 ks i j u (omega arith) q))))
+
+  pub begun-laid : (c i : ℕ) → c < length starts → i ≡ length ks → Begun starts ks c i → Laid (set starts c i) ks c
+  begun-laid c i h e b =
+      record {
+        room = rw (length-set starts c i) h;
+        start = laid-at c i h (omega arith) (λ j p q. absurd (omega arith)) b;
+        last = getD-set-same starts c i 0 h ∙ e;
+      }
+
+module _ (ks starts : List ℕ) (c : ℕ) (l : Laid starts ks c) where
+  -- a number of a class beyond all keys' stands behind them
+  pub laid-beyond : (v k n : ℕ) → k ≡ keyClass v → c ≤ k → n ≡ length ks → Stands ks v n
+  laid-beyond v k n e h q =
+      record {
+        within = omega arith;
+        before = λ i u. class-less (getD ks i 0) v (omega (arith, l .start c (omega arith) .before i (omega (arith, l .last))));
+        behind = λ i u w. absurd (omega arith);
+      }
+
+  -- the others stand among the keys of their class
+  laid-parted : (v k : ℕ) → k ≡ keyClass v → k < c → Parted ks v (getD starts k 0) (getD starts (k + 1) 0)
+  laid-parted v k e h =
+      record {
+        less = λ i u. class-less (getD ks i 0) v (omega (arith, l .start k (omega arith) .before i u));
+        rest = λ i u w. omega (arith, class-less v (getD ks i 0) (omega (arith, l .start (k + 1) (omega arith) .behind i u w)));
+      }
+
+  pub laid-order : (k : ℕ) → k < c → getD starts k 0 ≤ getD starts (k + 1) 0
+  laid-order k h =
+      by-bool (ltb (getD starts (k + 1) 0) (getD starts k 0))
+      (λ t.
+      let d = ltb-true (getD starts (k + 1) 0) (getD starts k 0) t in
+      let one = l .start k (omega arith) in
+      let two = l .start (k + 1) (omega arith) in
+      absurd (omega (arith, d, one .before (getD starts (k + 1) 0) d, two .behind (getD starts (k + 1) 0) (omega arith) (omega (arith, one .within, d)))))
+      (λ t. ltb-false (getD starts (k + 1) 0) (getD starts k 0) t)
+
+  pub laid-near : (v k n : ℕ) → k ≡ keyClass v → k < c → n ≡ length ks
+      → (getD starts k 0 ≤ getD starts (k + 1) 0) × (getD starts (k + 1) 0 ≤ n) × Parted ks v (getD starts k 0) (getD starts (k + 1) 0)
+  laid-near v k n e h q = (laid-order k h, omega (arith, l .start (k + 1) (omega arith) .within), laid-parted v k e h)
 
 -- ---- the place found: the key is one of the keys exactly when it is the one at that place
 

@@ -1,83 +1,20 @@
--- The keys before low are less than the key, and none from high on is.
-use Prim.Native.Nat.{_+_, _-_, _/_, _≤_, _<_}
+-- Among all keys: none is before the first place, and none from the last on.
 use native.Mathlib.Omega.{arith}
-use lib.ListN.{length, take}
-use lib.Seq.{length-take-le, getD-take}
-use Rattle.seek.proofs.Laws.{Parted, parted-none, parted-up, parted-down, parted-stands}
+use borrow.Author.Needs.{needs}
+use lib.ListN.{take}
+use lib.Seq.{length-take-le}
+use Rattle.seek.proofs.Laws.{parted-none}
 use Rattle.seek.proofs.find.Statement.{statement}
 use Rattle.seek.proofs.find.Tie as tie
 
-abbrev Inv-loop : tie.InvT-loop
-Inv-loop keys count key low₀ high₀ low high = (low ≤ high) × (high ≤ count) × Parted (take count keys) key low high
-
-abbrev μ-loop : tie.MeasureT-loop
-μ-loop keys count key low₀ high₀ low high = high - low
-
-loop-holds : tie.Need-loop-holds Inv-loop μ-loop
-loop-holds c =
-    let a = c .args in
-    (omega arith, omega arith, parted-none (take (a .count) (a .keys .now)) (a .key) (a .count) (length-take-le (a .count) (a .keys .now) (omega arith)))
-
-sub-middle : tie.Need-sub-middle Inv-loop μ-loop
-sub-middle c = omega arith
-
-add-middle : tie.Need-add-middle Inv-loop μ-loop
-add-middle c = omega arith
-
-mul-if1 : tie.Need-mul-if1 Inv-loop μ-loop
-mul-if1 c = omega arith
-
-shared-slice-read-if1 : tie.Need-shared-slice-read-if1 Inv-loop μ-loop
-shared-slice-read-if1 c = omega arith
-
-add-low : tie.Need-add-low Inv-loop μ-loop
-add-low c = omega arith
-
-loop-less : tie.Need-loop-less Inv-loop μ-loop
-loop-less c = omega arith
-
-loop-again : tie.Need-loop-again Inv-loop μ-loop
-loop-again c =
-    let l = c .before .before .before .loop in
-    let s = c .before .before .before .before in
+halve-requires : tie.Need-halve-requires
+halve-requires c κs =
+    let s = c .before in
     let a = s .args in
-    let m = l .low + (l .high - l .low) / 2 in
-    let h : m < a .count = omega arith in
-    let k : m < length (take (a .count) (a .keys .now)) = rw (length-take-le (a .count) (a .keys .now) (omega arith)) h in
-    (omega arith, omega arith, parted-up (take (a .count) (a .keys .now)) (a .key) (l .low) (l .high) m (s .pre .1) (l .inv .2) k (rw (getD-take (a .count) (a .keys .now) m 0 h) (c .if1 .taken)))
+    (omega arith, omega arith, s .pre .0, s .pre .1, parted-none (take (a .count) (a .keys .now)) (a .key) (a .count) (length-take-le (a .count) (a .keys .now) (s .pre .0)))
 
-loop-less-2 : tie.Need-loop-less-2 Inv-loop μ-loop
-loop-less-2 c = omega arith
-
-loop-again-2 : tie.Need-loop-again-2 Inv-loop μ-loop
-loop-again-2 c =
-    let l = c .before .before .before .loop in
-    let s = c .before .before .before .before in
-    let a = s .args in
-    let m = l .low + (l .high - l .low) / 2 in
-    let h : m < a .count = omega arith in
-    (omega arith, omega arith, parted-down (take (a .count) (a .keys .now)) (a .key) (l .low) (l .high) m (s .pre .1) (l .inv .2) (rw (getD-take (a .count) (a .keys .now) m 0 h) (c .if1 .left)))
-
-returns : tie.Need-returns Inv-loop μ-loop
-returns c =
-    let l = c .before .loop in
-    let a = c .before .before .args in
-    parted-stands (take (a .count) (a .keys .now)) (a .key) (l .low) (l .high) (omega arith) (rw (length-take-le (a .count) (a .keys .now) (omega arith)) (omega arith)) (l .inv .2)
+returns : tie.Need-returns
+returns c = search needs
 
 pub find-spec : {M : Type 1} → statement M
-find-spec =
-    tie.close
-    (tie.spec
-    Inv-loop
-    μ-loop
-    loop-holds
-    sub-middle
-    add-middle
-    mul-if1
-    shared-slice-read-if1
-    add-low
-    loop-less
-    loop-again
-    loop-less-2
-    loop-again-2
-    returns)
+find-spec = tie.close (tie.spec halve-requires returns)
