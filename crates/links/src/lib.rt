@@ -1,60 +1,68 @@
 // "Source item, label, target item, strictly ascending in that order of fields": links of six bytes, one after another, judged
 // where they stand. The same records are a register's links and a summary's class links. Leans on wire for the bytes.
 ghost use mathlib.Core.Path.{_≡_};
-ghost use Prim.Native.Nat.{_+_, _*_, _≤_, _<_};
+ghost use mathlib.Core.Bool.{_&&_};
+ghost use Prim.Native.Nat.{_+_, _*_, _/_, _%_, _≤_, _<_};
+ghost use lib.Dec.{ltb};
 ghost use lib.ListN.{length};
 ghost use Rattle.meaning.specs.Count.{tab};
-ghost use Rattle.meaning.specs.WellFormed.{linkIn, linkKey};
 ghost use Rattle.files.specs.RegisterFile.{linkAt};
-ghost use Rattle.links.specs.Order.{inOrder};
+ghost use Rattle.links.specs.Order.{inOrder, restIn};
 
 // "labels 0 to 15".
-const LABELS: u16 = 16;
+const LABELS: u32 = 16;
 
-// Whether each of the m links from a place on has its ends below n and its label below 16, and each comes after the one before:
-// `least` is the least key that the next may have.
+// Whether each of the m links from a place on has its ends below n and its label below 16, and each comes after the one before. Links
+// that ascend have the greatest source last, so that this one alone is compared with n. Label and target, as one number, are judged
+// when the next link is at hand: so they are read at once, and not byte by byte.
 pub fn fine(b: &[u8], at: usize, m: usize, n: usize) -> bool
     requires { ⌜ at + 6 * m ≤ length (now b) ⌝ }
     ensures { λ r. ⌜ r ≡ inOrder n (tab (λ k. linkAt (now (b .entry)) (at + 6 * k)) m) ⌝ }
 {
-    let mut least: u64 = 0;
+    if m == 0 {
+        return true;
+    }
+    let mut source = wire::two(b, at);
+    let mut rest = rest_at(b, at);
+    let mut key = source as u64 * 4294967296 + rest as u64;
     let mut k = 0;
-    while k < m {
-        let place = at + 6 * k;
-        if !in_range(b, place, n) {
+    while k + 1 < m {
+        if !rest_fine(rest, n) {
             return false;
         }
-        let key = key_at(b, place);
-        if key < least {
-            return false;
-        }
-        least = key + 1;
         k += 1;
+        let place = at + 6 * k;
+        source = wire::two(b, place);
+        rest = rest_at(b, place);
+        let next = source as u64 * 4294967296 + rest as u64;
+        if next <= key {
+            return false;
+        }
+        key = next;
     }
-    true
-}
-
-// Not "a link's item ≥ n, its label > 15", for the link at a place.
-fn in_range(b: &[u8], at: usize, n: usize) -> bool
-    requires { ⌜ at + 6 ≤ length (now b) ⌝ }
-    ensures { λ r. ⌜ r ≡ linkIn n (linkAt (now (b .entry)) at) ⌝ }
-{
-    if n <= wire::two(b, at) as usize {
+    if n <= source as usize {
         return false;
     }
-    if LABELS <= wire::two(b, at + 2) {
-        return false;
-    }
-    (wire::two(b, at + 4) as usize) < n
+    rest_fine(rest, n)
 }
 
-// The three fields of the link at a place as one number, so that "ascending in that order of fields" is one comparison.
-pub fn key_at(b: &[u8], at: usize) -> u64
+// Label and target of the link at a place as one number, so that with the source before it "ascending in that order of fields" is one
+// comparison.
+fn rest_at(b: &[u8], at: usize) -> u32
     requires { ⌜ at + 6 ≤ length (now b) ⌝ }
-    ensures { λ r. ⌜ (r ≡ linkKey (linkAt (now (b .entry)) at)) × (r < 281474976710656) ⌝ }
+    ensures { λ r. ⌜ (r ≡ linkAt (now (b .entry)) at .label * 65536 + linkAt (now (b .entry)) at .target) × (linkAt (now (b .entry)) at .target < 65536) ⌝ }
 {
-    let source = wire::two(b, at) as u64;
-    let label = wire::two(b, at + 2) as u64;
-    let target = wire::two(b, at + 4) as u64;
-    (source * 65536 + label) * 65536 + target
+    let label = wire::two(b, at + 2);
+    let target = wire::two(b, at + 4);
+    label as u32 * 65536 + target as u32
+}
+
+// Not "its label > 15", nor its target ≥ n.
+fn rest_fine(rest: u32, n: usize) -> bool
+    ensures { λ r. ⌜ r ≡ restIn n rest ⌝ }
+{
+    if LABELS <= rest / 65536 {
+        return false;
+    }
+    ((rest % 65536) as usize) < n
 }
