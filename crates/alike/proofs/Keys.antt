@@ -15,7 +15,7 @@ use Rattle.meaning.specs.declared.Direction.{Direction}
 use Rattle.meaning.specs.declared.Direction.the-variants.{Outgoing, Incoming}
 use Rattle.meaning.specs.WellFormed.{way}
 use Rattle.meaning.specs.Level.{classCount}
-use Rattle.files.specs.RegisterFile.{registerIn}
+use Rattle.meaning.specs.RegisterFile.{registerIn}
 use Rattle.theory.proofs.CountLaws.{by-eq, no, and-inv, and-yes, bool-iff, sum-zero, sum-split, tally-same, every-getD}
 use Rattle.theory.proofs.NeighbourLaws.{far-in, neighbours-places, neighbours-none}
 use Rattle.theory.proofs.NumberLaws.{getD-below, count-le}

@@ -16,7 +16,7 @@ use Rattle.meaning.specs.WellFormed.{way}
 use Rattle.meaning.specs.Level.{sameAround, number, classCount, alikeNext}
 use Rattle.meaning.specs.Summary.{noRow}
 use Rattle.meaning.specs.Condense.{rowsAt, by}
-use Rattle.files.specs.RegisterFile.{registerIn}
+use Rattle.meaning.specs.RegisterFile.{registerIn}
 use Rattle.theory.proofs.CountLaws.{and-inv, and-yes, bool-iff, all-yes, every-at, length-tab, tab-same, join-same}
 use Rattle.theory.proofs.LevelLaws.{around-parts, around-make}
 use Rattle.theory.proofs.NumberLaws.{number-cong}

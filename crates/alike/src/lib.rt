@@ -11,7 +11,7 @@ ghost use Rattle.meaning.specs.Count.{tab, join};
 ghost use Rattle.meaning.specs.Register.{marksOf, linkOf};
 ghost use Rattle.meaning.specs.WellFormed.{way as wayNumber};
 ghost use Rattle.meaning.specs.Level.{number, alikeNext, classList, classCount};
-ghost use Rattle.files.specs.RegisterFile.{registerIn};
+ghost use Rattle.meaning.specs.RegisterFile.{registerIn};
 ghost use Rattle.register.specs.Told.{OfLink, OfItems, OfRegister};
 ghost use Rattle.lists.specs.Writes.{Writes};
 ghost use Rattle.alike.specs.Step.{OfClasses, Room, keyOf, itemRows, itemStart, RowsStand, Reached, Onward};

@@ -17,8 +17,8 @@ use Rattle.meaning.specs.Condense.{by, classFor}
 use Rattle.theory.proofs.CountLaws.{by-bool, by-eq, no, seek-le, seek-passes, join-same}
 use Rattle.theory.proofs.NumberLaws.{tally-lt, getD-below}
 use Rattle.promise.proofs.Access.{items-at, readable}
-use Rattle.files.specs.Bytes.{pack}
-use Rattle.files.specs.RegisterFile.{registerIn}
+use Rattle.meaning.specs.Bytes.{pack}
+use Rattle.meaning.specs.RegisterFile.{registerIn}
 use Rattle.wire.proofs.Sets.{pack-tab}
 use Rattle.summary.specs.Numbers.{classFields, classNumbers}
 use Rattle.classes.specs.Counted.{part, Sorted, Enters, Numbered}

@@ -8,8 +8,8 @@ use Rattle.meaning.specs.Count.{tab}
 use Rattle.meaning.specs.Register.{Register, items}
 use Rattle.meaning.specs.Level.{classCount, lowestItem}
 use Rattle.meaning.specs.Condense.{classFor}
-use Rattle.files.specs.Bytes.{pack}
-use Rattle.files.specs.RegisterFile.{registerIn, fault}
+use Rattle.meaning.specs.Bytes.{pack}
+use Rattle.meaning.specs.RegisterFile.{registerIn, fault}
 use Rattle.summary.specs.Numbers.{classFields, classNumbers}
 
 -- number j of class k's record

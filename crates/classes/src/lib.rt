@@ -9,8 +9,8 @@ ghost use Rattle.meaning.specs.Count.{tab};
 ghost use Rattle.meaning.specs.Register.{items, marksOf};
 ghost use Rattle.meaning.specs.Level.{classCount};
 ghost use Rattle.meaning.specs.Condense.{classFor};
-ghost use Rattle.files.specs.Bytes.{pack};
-ghost use Rattle.files.specs.RegisterFile.{registerIn, fault};
+ghost use Rattle.meaning.specs.Bytes.{pack};
+ghost use Rattle.meaning.specs.RegisterFile.{registerIn, fault};
 ghost use Rattle.summary.specs.Numbers.{classFields, classNumbers};
 ghost use Rattle.classes.specs.Counted.{Sorted, Enters, Numbered};
 

@@ -13,11 +13,11 @@ use Rattle.meaning.specs.Register.{Register}
 use Rattle.meaning.specs.Summary.{Summary}
 use Rattle.meaning.specs.Level.{classList, classCount, alike, Numbering}
 use Rattle.meaning.specs.Condense.{classFor, summaryBy, summaryOf}
-use Rattle.files.specs.Bytes.{put2, pack}
-use Rattle.files.specs.RegisterFile.{registerIn}
-use Rattle.files.specs.SummaryFile.{summarySize, summaryBytes}
-use Rattle.files.specs.Answers.{returned, left, into}
-use Rattle.files.specs.declared.Refusal.the-variants.{Room}
+use Rattle.meaning.specs.Bytes.{put2, pack}
+use Rattle.meaning.specs.RegisterFile.{registerIn}
+use Rattle.meaning.specs.SummaryFile.{summarySize, summaryBytes}
+use Rattle.meaning.specs.Answers.{returned, left, into}
+use Rattle.meaning.specs.declared.Refusal.the-variants.{Room}
 use Rattle.theory.proofs.CountLaws.{length-tab}
 use Rattle.theory.proofs.LimitLaws.{rows-most, links-most}
 use Rattle.theory.proofs.ClassListLaws.{class-list}

@@ -1,14 +1,14 @@
 -- What the writer of a summary is handed, and what a call that fills a lent buffer gives: "A success returns the length written", "bytes
--- past that length stay". Leans on files' Answers and on alike's rows.
+-- past that length stay". Leans on meaning's Answers and on alike's rows.
 use mathlib.Core.Path.{_≡_}
 use mathlib.Core.List.{List}
 use Prim.Native.Nat.{ℕ, _≤_}
 use lib.ListN.{length, take}
 use Rattle.meaning.specs.Register.{items}
 use Rattle.meaning.specs.Level.{alike, classCount, Numbering}
-use Rattle.files.specs.RegisterFile.{registerIn}
-use Rattle.files.specs.Refusals.{numberOf}
-use Rattle.files.specs.Answers.{Answer, Returned, number, size, returned, left}
+use Rattle.meaning.specs.RegisterFile.{registerIn}
+use Rattle.meaning.specs.Refusals.{numberOf}
+use Rattle.meaning.specs.Answers.{Answer, Returned, number, size, returned, left}
 use Rattle.register.specs.Told.{OfRegister}
 use Rattle.alike.specs.Step.{RowsStand}
 use Rattle.condense.specs.declared.Wrote.{Wrote}

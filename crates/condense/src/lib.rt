@@ -1,13 +1,13 @@
 // A register condensed: its classes level by level, then the five parts of the summary, then the file. Leans on alike for the classes,
 // on classes, filed and edges for the parts, on summary for the file.
-use files::Refusal;
+use meaning::Refusal;
 ghost use Prim.Native.Nat.{_≤_};
 ghost use lib.ListN.{length, take};
 ghost use Rattle.meaning.specs.Condense.{summaryBy, summaryOf};
-ghost use Rattle.files.specs.Bytes.{put2, pack};
-ghost use Rattle.files.specs.RegisterFile.{registerIn};
-ghost use Rattle.files.specs.SummaryFile.{summaryBytes, summarySize};
-ghost use Rattle.files.specs.Answers.{into};
+ghost use Rattle.meaning.specs.Bytes.{put2, pack};
+ghost use Rattle.meaning.specs.RegisterFile.{registerIn};
+ghost use Rattle.meaning.specs.SummaryFile.{summaryBytes, summarySize};
+ghost use Rattle.meaning.specs.Answers.{into};
 ghost use Rattle.register.specs.Told.{OfRegister};
 ghost use Rattle.summary.specs.Numbers.{numbers, Parts};
 ghost use Rattle.condense.specs.Written.{Gives, Classed};

@@ -1,13 +1,13 @@
 // What the program prints, in document 01's words: "Fields: i, µ, ν, c, g, n; class, marks, group, count; row, edge and map fields in file
 // order, `item` with its number before its class." Every number is read from the summary's file.
 use crate::page;
-use files::Refusal;
+use meaning::Refusal;
 ghost use Prim.Native.Nat.{_<_};
 
 // "A refusal prints the one line `refused` and the number."
 pub fn refused(text: &mut [u8], refusal: Refusal) {
     let at = page::word(text, 0, b"refused");
-    let at = page::field(text, at, files::number(refusal) as u64);
+    let at = page::field(text, at, meaning::number(refusal) as u64);
     let at = page::line(text, at);
     page::write(text, at);
 }

@@ -22,8 +22,8 @@ use Rattle.meaning.proofs.Kind.{the-type}
 use Rattle.meaning.specs.Question.{Question, shows}
 use Rattle.meaning.specs.Summary.{Row, Summary, noRow, classOf, rowOf, lowestClass, holdsAt}
 use Rattle.meaning.specs.WellFormed.{within, rowIn, numbers, wellFormed}
-use Rattle.files.specs.SummaryFile.{summaryIn}
-use Rattle.files.specs.declared.Refusal.{Refusal}
+use Rattle.meaning.specs.SummaryFile.{summaryIn}
+use Rattle.meaning.specs.declared.Refusal.{Refusal}
 use Rattle.theory.proofs.CountLaws.{by-bool, by-eq, and-inv, each-every, every-at}
 use Rattle.theory.proofs.ShapeLaws.{well-parts, number-parts}
 use Rattle.entry.specs.declared.Reading.{Reading}

@@ -12,7 +12,7 @@ use lib.Seq.{getD-set-same, getD-set-other}
 use Rattle.meaning.specs.Count.{seek}
 use Rattle.meaning.specs.Summary.{Summary, classOf, lowestClass}
 use Rattle.meaning.specs.WellFormed.{wellFormed}
-use Rattle.files.specs.SummaryFile.{summaryIn, wellFormedFile}
+use Rattle.meaning.specs.SummaryFile.{summaryIn, wellFormedFile}
 use Rattle.wellformed.proofs.Laws.{well-file, groups-file}
 use Rattle.theory.proofs.CountLaws.{by-eq, seek-from}
 use Rattle.theory.proofs.ShapeLaws.{well-shaped}

@@ -14,7 +14,7 @@ use Rattle.meaning.specs.Register.{sameWay}
 use Rattle.meaning.specs.declared.Direction.{Direction}
 use Rattle.meaning.specs.Summary.{Row, Summary, noRow, rowOf, rowFor, counted}
 use Rattle.meaning.specs.WellFormed.{way, rowKey, wellFormed}
-use Rattle.files.specs.SummaryFile.{summaryIn, wellFormedFile}
+use Rattle.meaning.specs.SummaryFile.{summaryIn, wellFormedFile}
 use Rattle.theory.proofs.CountLaws.{by-bool, and-inv, and-yes, getD-tab, sum-same, sum-window, total-places}
 use Rattle.theory.proofs.ShapeLaws.{well-parts, same-direction, own-direction}
 use Rattle.theory.proofs.OneLaws.{order-parts, way-tells, way-small}

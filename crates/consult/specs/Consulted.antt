@@ -13,8 +13,8 @@ use Rattle.meaning.specs.declared.Kind.{Kind}
 use Rattle.meaning.specs.declared.Kind.the-variants.{True, Literal, Not, And, Or, AtLeast}
 use Rattle.meaning.specs.Question.{Question}
 use Rattle.meaning.specs.Summary.{Summary, rowOf, rowFor, lowestClass, holdsAt}
-use Rattle.files.specs.SummaryFile.{summaryIn, wellFormedFile}
-use Rattle.files.specs.declared.Refusal.the-variants.{Question as Malformation}
+use Rattle.meaning.specs.SummaryFile.{summaryIn, wellFormedFile}
+use Rattle.meaning.specs.declared.Refusal.the-variants.{Question as Malformation}
 use Rattle.question.specs.declared.Asked.{Asked}
 use Rattle.question.specs.declared.Asked.the-variants.{Said, Refused as NotSaid}
 use Rattle.question.specs.declared.Filled.{Filled}

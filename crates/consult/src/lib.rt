@@ -2,9 +2,9 @@
 // operand holds". Leans on entry and question for what is asked, on reader for the file's numbers, on seek for a class's rows and on memo for
 // what was said.
 use entry::Reading;
-use files::Refusal;
 use meaning::Direction;
 use meaning::Kind;
+use meaning::Refusal;
 use names::Class;
 use names::Group;
 use question::Asked;
@@ -16,7 +16,7 @@ ghost use Prim.Native.Nat.{ℕ, _+_, _≤_, _<_};
 ghost use lib.ListN.{length, getD};
 ghost use Rattle.meaning.specs.Summary.{lowestClass};
 ghost use Rattle.meaning.specs.WellFormed as meant;
-ghost use Rattle.files.specs.SummaryFile.{summaryIn, wellFormedFile};
+ghost use Rattle.meaning.specs.SummaryFile.{summaryIn, wellFormedFile};
 ghost use Rattle.wellformed.specs.Keys.{Keyed};
 ghost use Rattle.consult.specs.Consulted.{Consulted, Own, Holds, Counts, Answers, Remembers};
 ghost use Rattle.consult.specs.Consulted as consulted;

@@ -18,7 +18,7 @@ use Rattle.meaning.specs.declared.Direction.{Direction}
 use Rattle.meaning.specs.declared.Kind.{Kind}
 use Rattle.meaning.specs.declared.Kind.the-variants.{True, Literal, Not, And, Or, AtLeast}
 use Rattle.meaning.specs.Question.{Question, shows, holds}
-use Rattle.files.specs.declared.Refusal.{Refusal}
+use Rattle.meaning.specs.declared.Refusal.{Refusal}
 use Rattle.theory.proofs.CountLaws.{by-bool, by-eq}
 use Rattle.question.specs.declared.Spanned.{Spanned}
 use Rattle.question.specs.declared.Spanned.the-variants.{Tree}

@@ -9,9 +9,9 @@ use lib.ListN.{getD}
 use Rattle.meaning.specs.Register.{Register, linkOf, far, neighbours}
 use Rattle.meaning.specs.declared.Direction.{Direction}
 use Rattle.meaning.specs.Question.{Question, holds}
-use Rattle.files.specs.RegisterFile.{registerIn}
+use Rattle.meaning.specs.RegisterFile.{registerIn}
 use Rattle.register.specs.Told.{OfRegister}
-use Rattle.files.specs.declared.Refusal.the-variants.{Room}
+use Rattle.meaning.specs.declared.Refusal.the-variants.{Room}
 use Rattle.question.specs.declared.Asked.{Asked}
 use Rattle.question.specs.declared.Asked.the-variants.{Refused}
 use Rattle.nearby.specs.Nearby.{Outs, Ins}

@@ -1,9 +1,9 @@
 // A question asked at one item of a register, from the item downwards: an operand is asked only where the answer hangs on it, and once an
 // item. Leans on entry and question for what is asked, on nearby for an item's links and on memo for what was said before.
 use entry::Reading;
-use files::Refusal;
 use meaning::Direction;
 use meaning::Kind;
+use meaning::Refusal;
 use names::Item;
 use question::Asked;
 use question::Spanned;
@@ -12,7 +12,7 @@ ghost use Prim.Native.Nat.{ℕ, _+_, _≤_, _<_};
 ghost use mathlib.Core.Bool.{cond};
 ghost use lib.ListN.{length};
 ghost use Rattle.meaning.specs.Question as meant;
-ghost use Rattle.files.specs.RegisterFile.{registerIn};
+ghost use Rattle.meaning.specs.RegisterFile.{registerIn};
 ghost use Rattle.register.specs.Told.{OfRegister};
 ghost use Rattle.memo.specs.Kept.{Tells, Remembers};
 ghost use Rattle.nearby.specs.Nearby.{Outs, Ins};

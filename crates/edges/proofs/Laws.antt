@@ -20,8 +20,8 @@ use Rattle.theory.proofs.CountLaws.{by-bool, by-eq, no, bool-iff, length-tab, e
 use Rattle.theory.proofs.CountLaws.{total-any, total-same, total-tab, total-places, Rising, rising-from, rising-to, rising-join, rising-ascends}
 use Rattle.theory.proofs.MatchLaws.{joins-parts, joins-make}
 use Rattle.theory.proofs.OneLaws.{BetweenFine, links-one}
-use Rattle.files.specs.Bytes.{pack}
-use Rattle.files.specs.RegisterFile.{registerIn}
+use Rattle.meaning.specs.Bytes.{pack}
+use Rattle.meaning.specs.RegisterFile.{registerIn}
 use Rattle.promise.proofs.Access.{links-at, readable}
 use Rattle.register.specs.Told.{OfRegister}
 use Rattle.order.specs.Sorted.{into, sorted, Ascends}

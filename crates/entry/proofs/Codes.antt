@@ -1,5 +1,5 @@
 -- What the tests of an entry's two bytes come to, over numbers: the signed byte, the literal, the table by the first byte; and the
--- bit of a mark. Leans on files' QuestionFile.
+-- bit of a mark. Leans on meaning's QuestionFile.
 use mathlib.Core.Path.{_≡_, refl, sym, ap, _∙_}
 use mathlib.Core.Bool.{Bool, true, false, not, cond, and-false, false≢true}
 use mathlib.Core.List.{List}
@@ -19,7 +19,7 @@ use Rattle.meaning.specs.Question.{bit, shows}
 use Rattle.meaning.specs.declared.Direction.the-variants.{Outgoing, Incoming}
 use Rattle.meaning.specs.declared.Kind.{Kind}
 use Rattle.meaning.specs.declared.Kind.the-variants.{True, Literal, Not, And, Or, AtLeast}
-use Rattle.files.specs.QuestionFile.{signed, when, kind}
+use Rattle.meaning.specs.QuestionFile.{signed, when, kind}
 use Rattle.entry.specs.Entries.{entryAt}
 
 -- ---- the signed byte

@@ -1,4 +1,4 @@
--- What an entry that reads is: it lies within the question, and its parameters are in range. Leans on files' QuestionFile.
+-- What an entry that reads is: it lies within the question, and its parameters are in range. Leans on meaning's QuestionFile.
 use mathlib.Core.Path.{_≡_, refl, sym, ap, subst, _∙_}
 use mathlib.Core.Bool.{Bool, true, false, cond, _&&_}
 use mathlib.Core.List.{List}
@@ -17,7 +17,7 @@ use Rattle.meaning.specs.declared.Direction.{Direction}
 use Rattle.meaning.specs.declared.Direction.the-variants.{Outgoing, Incoming}
 use Rattle.meaning.specs.declared.Kind.{Kind}
 use Rattle.meaning.specs.declared.Kind.the-variants.{True, Literal, Not, And, Or, AtLeast}
-use Rattle.files.specs.QuestionFile.{signed, when, kind}
+use Rattle.meaning.specs.QuestionFile.{signed, when, kind}
 use Rattle.theory.proofs.CountLaws.{by-bool, and-inv}
 use Rattle.entry.specs.declared.Reading.{Reading}
 use Rattle.entry.specs.declared.Reading.the-variants.{Entry, Malformed}

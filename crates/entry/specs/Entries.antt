@@ -1,4 +1,4 @@
--- What is read of four bytes, in document 01's terms: an entry of a question's bytes. Leans on files' QuestionFile for the table.
+-- What is read of four bytes, in document 01's terms: an entry of a question's bytes. Leans on meaning's QuestionFile for the table.
 use mathlib.Core.Bool.{cond, _&&_}
 use mathlib.Core.List.{List}
 use mathlib.Core.Option.{Option, none, some}
@@ -6,7 +6,7 @@ use Prim.Native.Nat.{ℕ, _+_, _*_}
 use lib.Dec.{eqb, leb}
 use lib.ListN.{length, getD}
 use Rattle.meaning.specs.declared.Kind.{Kind}
-use Rattle.files.specs.QuestionFile.{kind}
+use Rattle.meaning.specs.QuestionFile.{kind}
 use Rattle.entry.specs.declared.Reading.{Reading}
 use Rattle.entry.specs.declared.Reading.the-variants.{Entry, Malformed}
 

@@ -10,8 +10,8 @@ ghost use Rattle.meaning.specs.WellFormed.{within};
 ghost use Rattle.meaning.specs.Question.{bit};
 ghost use Rattle.meaning.specs.Question as trees;
 ghost use Rattle.meaning.specs.declared.Kind.the-variants as kinds;
-ghost use Rattle.files.specs.QuestionFile.{when, kind};
-ghost use Rattle.files.specs.QuestionFile as file;
+ghost use Rattle.meaning.specs.QuestionFile.{when, kind};
+ghost use Rattle.meaning.specs.QuestionFile as file;
 ghost use Rattle.entry.specs.Entries.{kindOf, entryAt};
 
 // "An entry is read as one of six kinds with its parameters, or the question is refused."

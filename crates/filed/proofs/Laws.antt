@@ -14,7 +14,7 @@ use Rattle.meaning.specs.Register.{Register}
 use Rattle.meaning.specs.Summary.{Row, noRow}
 use Rattle.meaning.specs.Level.{classCount, lowestItem, Numbering}
 use Rattle.meaning.specs.Condense.{rowsAt, by}
-use Rattle.files.specs.Bytes.{pack}
+use Rattle.meaning.specs.Bytes.{pack}
 use Rattle.theory.proofs.CountLaws.{by-bool, by-eq, seek-le, length-tab, getD-tab, join-same, every-at}
 use Rattle.theory.proofs.NumberLaws.{count-le}
 use Rattle.wire.proofs.Sets.{then-record, length-records, pack-tab}

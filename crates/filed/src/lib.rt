@@ -6,7 +6,7 @@ ghost use Prim.Native.Nat.{ℕ, _+_, _*_, _<_, _≤_};
 ghost use lib.ListN.{length, take};
 ghost use lib.Seq.{sets};
 ghost use Rattle.meaning.specs.Register.{Register};
-ghost use Rattle.files.specs.Bytes.{pack};
+ghost use Rattle.meaning.specs.Bytes.{pack};
 ghost use Rattle.summary.specs.Numbers.{rowNumbers};
 ghost use Rattle.filed.specs.Copied.{wordNumbers, copied, Words, classRows, Given};
 

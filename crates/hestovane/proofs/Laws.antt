@@ -1,4 +1,4 @@
--- The refusals of each call in their order: what the answer is once the tests before have passed. Leans on files' Answers, and on
+-- The refusals of each call in their order: what the answer is once the tests before have passed. Leans on meaning's Answers, and on
 -- the laws of what a judged register and a judged question are.
 use mathlib.Core.Path.{_≡_, refl, sym, ap, subst, _∙_}
 use mathlib.Core.Bool.{Bool, true, false, cond}
@@ -13,15 +13,15 @@ use Rattle.meaning.specs.Register.{items}
 use Rattle.meaning.specs.WellFormed.{inRange}
 use Rattle.meaning.specs.Check.{fits}
 use Rattle.meaning.specs.Condense.{summaryOf}
-use Rattle.files.specs.RegisterFile.{registerIn, fault, verdict, verdictBy, accepted, refused}
-use Rattle.files.specs.RegisterFile as file
-use Rattle.files.specs.QuestionFile.{question}
-use Rattle.files.specs.Answers.{Answer, Returned, number, word, wrote, returned, left, into, unless, condense, check, askTree, askRegister}
-use Rattle.files.specs.Answers
-use Rattle.files.specs.SummaryFile.{summaryBytes, summaryIn, wellFormedFile}
-use Rattle.files.specs.Refusals.{numberOf}
-use Rattle.files.specs.declared.Refusal.{Refusal}
-use Rattle.files.specs.declared.Refusal.the-variants.{Range}
+use Rattle.meaning.specs.RegisterFile.{registerIn, fault, verdict, verdictBy, accepted, refused}
+use Rattle.meaning.specs.RegisterFile as file
+use Rattle.meaning.specs.QuestionFile.{question}
+use Rattle.meaning.specs.Answers.{Answer, Returned, number, word, wrote, returned, left, into, unless, condense, check, askTree, askRegister}
+use Rattle.meaning.specs.Answers
+use Rattle.meaning.specs.SummaryFile.{summaryBytes, summaryIn, wellFormedFile}
+use Rattle.meaning.specs.Refusals.{numberOf}
+use Rattle.meaning.specs.declared.Refusal.{Refusal}
+use Rattle.meaning.specs.declared.Refusal.the-variants.{Range}
 use Rattle.theory.proofs.WellMade.{level-least}
 use Rattle.condense.specs.Written as written
 use Rattle.condense.specs.Written.{Gives}
@@ -49,7 +49,7 @@ refused-first : (b : List ℕ) (k : ℕ) (a : Answer) → refused k ≡ verdict 
 unfolding verdict verdictBy unless returned
 refused-first b k a e = go (fault b) e
   where
-    go : (j : ℕ) → refused k ≡ verdictBy j (Rattle.files.specs.Bytes.num2 b 0) (Rattle.files.specs.Bytes.num2 b 2) → number k ≡ returned (unless j a)
+    go : (j : ℕ) → refused k ≡ verdictBy j (Rattle.meaning.specs.Bytes.num2 b 0) (Rattle.meaning.specs.Bytes.num2 b 2) → number k ≡ returned (unless j a)
     go zero e = let z : _≡_ {A = ℕ} 0 1 = cc in absurd (omega arith)
     go (suc j) e = let s : k ≡ suc j = cc in ap number s
 
@@ -58,7 +58,7 @@ refused-leaves : (b : List ℕ) (k : ℕ) (a : Answer) (d : List ℕ) → refuse
 unfolding verdict verdictBy unless left
 refused-leaves b k a d e = go (fault b) e
   where
-    go : (j : ℕ) → refused k ≡ verdictBy j (Rattle.files.specs.Bytes.num2 b 0) (Rattle.files.specs.Bytes.num2 b 2) → d ≡ left (unless j a) d
+    go : (j : ℕ) → refused k ≡ verdictBy j (Rattle.meaning.specs.Bytes.num2 b 0) (Rattle.meaning.specs.Bytes.num2 b 2) → d ≡ left (unless j a) d
     go zero e = let z : _≡_ {A = ℕ} 0 1 = cc in absurd (omega arith)
     go (suc j) e = refl
 

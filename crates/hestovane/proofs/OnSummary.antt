@@ -1,4 +1,4 @@
--- The refusals of asking and listing from a summary in their order: 6, 5, 7, then 8 or 9. Leans on files' Answers.
+-- The refusals of asking and listing from a summary in their order: 6, 5, 7, then 8 or 9. Leans on meaning's Answers.
 use mathlib.Core.Path.{_≡_, refl, sym, ap, _∙_}
 use mathlib.Core.Bool.{Bool, true, false, cond, _||_}
 use mathlib.Core.List.{List}
@@ -12,13 +12,13 @@ use Rattle.meaning.specs.Count.{those}
 use Rattle.meaning.specs.Question.{Question, depth, threshold}
 use Rattle.meaning.specs.Summary.{Summary, classAt, holdsAt}
 use Rattle.meaning.specs.Summary
-use Rattle.files.specs.Bytes.{put2, pack}
-use Rattle.files.specs.QuestionFile.{question}
-use Rattle.files.specs.SummaryFile.{summaryIn, wellFormedFile}
-use Rattle.files.specs.Refusals.{numberOf}
-use Rattle.files.specs.declared.Refusal.{Refusal}
-use Rattle.files.specs.Answers.{Answer, number, word, returned, left, into, beyond, askIn, askSummary, listIn, list}
-use Rattle.files.specs.Answers
+use Rattle.meaning.specs.Bytes.{put2, pack}
+use Rattle.meaning.specs.QuestionFile.{question}
+use Rattle.meaning.specs.SummaryFile.{summaryIn, wellFormedFile}
+use Rattle.meaning.specs.Refusals.{numberOf}
+use Rattle.meaning.specs.declared.Refusal.{Refusal}
+use Rattle.meaning.specs.Answers.{Answer, number, word, returned, left, into, beyond, askIn, askSummary, listIn, list}
+use Rattle.meaning.specs.Answers
 use Rattle.theory.proofs.CountLaws.{those-same}
 use Rattle.summary.proofs.Laws.{size-numbers}
 use Rattle.condense.specs.Written.{Gives}

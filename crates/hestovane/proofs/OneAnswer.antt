@@ -8,9 +8,9 @@ use Prim.Native.Nat.{ℕ}
 use native.Mathlib.Omega.{arith}
 use lib.ListN.{length}
 use lib.IntN.{ℤ}
-use Rattle.files.specs.Refusals.{numberOf}
-use Rattle.files.specs.declared.Refusal.{Refusal}
-use Rattle.files.specs.Answers.{Answer, Returned, number, word, size, returned, code, left, condense, check, askRegister, askSummary, list}
+use Rattle.meaning.specs.Refusals.{numberOf}
+use Rattle.meaning.specs.declared.Refusal.{Refusal}
+use Rattle.meaning.specs.Answers.{Answer, Returned, number, word, size, returned, code, left, condense, check, askRegister, askSummary, list}
 use Rattle.promise.proofs.OneAnswer.{number-one}
 use Rattle.condense.specs.Written as written
 use Rattle.condense.specs.Written.{Gives}

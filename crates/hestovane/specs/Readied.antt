@@ -6,8 +6,8 @@ use mathlib.Core.Option.{some}
 use Prim.Native.Nat.{ℕ}
 use lib.ListN.{length}
 use Rattle.meaning.specs.Question.{Question, depth, threshold}
-use Rattle.files.specs.QuestionFile.{question}
-use Rattle.files.specs.SummaryFile.{summaryIn, wellFormedFile}
+use Rattle.meaning.specs.QuestionFile.{question}
+use Rattle.meaning.specs.SummaryFile.{summaryIn, wellFormedFile}
 use Rattle.wellformed.specs.Keys.{Keyed}
 
 -- a well-formed summary with the keys of its rows, and a well-formed question with its depth and its greatest threshold

@@ -1,8 +1,8 @@
--- What the calls' enums say in document 01's numbers and values. Leans on files' Answers and Refusals.
+-- What the calls' enums say in document 01's numbers and values. Leans on meaning's Answers and Refusals.
 use mathlib.Core.Bool.{true, false}
 use Prim.Native.Nat.{_≤_}
-use Rattle.files.specs.Refusals.{numberOf}
-use Rattle.files.specs.Answers.{Returned, number, word, size}
+use Rattle.meaning.specs.Refusals.{numberOf}
+use Rattle.meaning.specs.Answers.{Returned, number, word, size}
 use Rattle.hestovane.specs.declared.Said.{Said}
 use Rattle.hestovane.specs.declared.Said.the-variants.{Yes, No, Refused}
 

@@ -1,7 +1,7 @@
 // The public calls. Each takes any input, judges it for itself and refuses with document 01's numbers in document 01's order; its
-// contract is an equation with the call's one definition in files' Answers. The exported functions give the same as one number.
+// contract is an equation with the call's one definition in meaning's Answers. The exported functions give the same as one number.
 use condense::Wrote;
-use files::Refusal;
+use meaning::Refusal;
 use names::Item;
 use question::Asked;
 use question::Filled;
@@ -9,11 +9,11 @@ use register::Judged;
 ghost use mathlib.Core.Path.{_≡_};
 ghost use Prim.Native.Nat.{_≤_};
 ghost use lib.ListN.{length, take};
-ghost use Rattle.files.specs.QuestionFile.{question};
-ghost use Rattle.files.specs.Refusals.{numberOf};
-ghost use Rattle.files.specs.Bytes.{put2, pack};
-ghost use Rattle.files.specs.Answers.{word, number, returned, code, left, into, askTree, askRegister, askSummary};
-ghost use Rattle.files.specs.Answers as answers;
+ghost use Rattle.meaning.specs.QuestionFile.{question};
+ghost use Rattle.meaning.specs.Refusals.{numberOf};
+ghost use Rattle.meaning.specs.Bytes.{put2, pack};
+ghost use Rattle.meaning.specs.Answers.{word, number, returned, code, left, into, askTree, askRegister, askSummary};
+ghost use Rattle.meaning.specs.Answers as answers;
 ghost use Rattle.register.specs.Told.{OfRegister};
 ghost use Rattle.condense.specs.Written as written;
 ghost use Rattle.condense.specs.Written.{Gives};

@@ -17,9 +17,9 @@ use Rattle.theory.proofs.CountLaws.{by-eq}
 use Rattle.theory.proofs.NeighbourLaws.{neighbours-same}
 use Rattle.theory.proofs.ShapeLaws.{accepted-fine}
 use Rattle.promise.proofs.Promise.{fault-accepted}
-use Rattle.files.specs.RegisterFile.{registerIn, fault}
-use Rattle.files.specs.QuestionFile.{question}
-use Rattle.files.specs.declared.Refusal.{Refusal}
+use Rattle.meaning.specs.RegisterFile.{registerIn, fault}
+use Rattle.meaning.specs.QuestionFile.{question}
+use Rattle.meaning.specs.declared.Refusal.{Refusal}
 use Rattle.entry.specs.declared.Reading.{Reading}
 use Rattle.entry.specs.declared.Reading.the-variants.{Malformed}
 use Rattle.entry.specs.Entries.{kindOf, entryAt}

@@ -9,7 +9,7 @@ use Rattle.meaning.specs.Register.{Register}
 use Rattle.meaning.specs.Question.{Question, holds}
 use Rattle.meaning.specs.declared.Kind.{Kind}
 use Rattle.meaning.specs.declared.Kind.the-variants.{And, Or}
-use Rattle.files.specs.QuestionFile.{question}
+use Rattle.meaning.specs.QuestionFile.{question}
 use Rattle.question.specs.Read.{Parsed}
 use Rattle.table.specs.Row.{row}
 use Rattle.question.specs.declared.Filled.{Filled}

@@ -2,9 +2,9 @@
 // last entry to the first, it is kept for every entry and item whether the entry holds there, so that a question costs no more than about
 // n + m steps an entry. Leans on descent for the first and on table for the second.
 use entry::Reading;
-use files::Refusal;
 use meaning::Direction;
 use meaning::Kind;
+use meaning::Refusal;
 use names::Item;
 use question::Asked;
 use question::Filled;
@@ -17,8 +17,8 @@ ghost use lib.IntN.{natAbs};
 ghost use lib.ListN.{length};
 ghost use Rattle.meaning.specs.Register.{items, marksOf, neighbours};
 ghost use Rattle.meaning.specs.Question.{shows};
-ghost use Rattle.files.specs.RegisterFile.{registerIn, fault};
-ghost use Rattle.files.specs.QuestionFile.{question};
+ghost use Rattle.meaning.specs.RegisterFile.{registerIn, fault};
+ghost use Rattle.meaning.specs.QuestionFile.{question};
 ghost use Rattle.entry.specs.Entries.{entryAt};
 ghost use Rattle.table.specs.Row.{Room, row, Writes};
 ghost use Rattle.register.specs.Told.{OfRegister};

@@ -11,8 +11,8 @@ use lib.Dec.{leb, ltb}
 use Rattle.meaning.specs.Count.{all, tab}
 use Rattle.meaning.specs.Register.{Link}
 use Rattle.meaning.specs.WellFormed.{linkIn, linkKey}
-use Rattle.files.specs.Bytes.{num2}
-use Rattle.files.specs.RegisterFile.{linkAt}
+use Rattle.meaning.specs.Bytes.{num2}
+use Rattle.meaning.specs.RegisterFile.{linkAt}
 use Rattle.theory.proofs.CountLaws.{by-bool, by-eq, and-inv, past, all-yes, all-no, all-and, each-tab, ascends-tab}
 use Rattle.links.specs.Order.{inOrder, restIn}
 

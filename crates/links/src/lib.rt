@@ -6,7 +6,7 @@ ghost use Prim.Native.Nat.{_+_, _*_, _/_, _%_, _≤_, _<_};
 ghost use lib.Dec.{ltb};
 ghost use lib.ListN.{length};
 ghost use Rattle.meaning.specs.Count.{tab};
-ghost use Rattle.files.specs.RegisterFile.{linkAt};
+ghost use Rattle.meaning.specs.RegisterFile.{linkAt};
 ghost use Rattle.links.specs.Order.{inOrder, restIn};
 
 // "labels 0 to 15".

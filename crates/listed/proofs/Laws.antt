@@ -10,7 +10,7 @@ use lib.ListN.{length, take, set, length-append}
 use lib.Seq.{take-suc-set}
 use Rattle.meaning.specs.Count.{those}
 use Rattle.meaning.specs.Summary.{classAt}
-use Rattle.files.specs.SummaryFile.{summaryIn, wellFormedFile}
+use Rattle.meaning.specs.SummaryFile.{summaryIn, wellFormedFile}
 use Rattle.theory.proofs.CountLaws.{by-bool, each-every, every-at}
 use Rattle.theory.proofs.ShapeLaws.{well-parts, number-parts}
 use Rattle.wellformed.proofs.Laws.{well-file, sized-file}

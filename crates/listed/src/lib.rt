@@ -8,7 +8,7 @@ ghost use Prim.Native.Nat.{_+_, _<_};
 ghost use lib.ListN.{length, getD, take};
 ghost use Rattle.meaning.specs.Count.{those};
 ghost use Rattle.meaning.specs.Summary.{classAt};
-ghost use Rattle.files.specs.SummaryFile.{summaryIn, wellFormedFile};
+ghost use Rattle.meaning.specs.SummaryFile.{summaryIn, wellFormedFile};
 
 // How many they are; their numbers are left at the start of `out`.
 pub fn put_items(s: &[u8], answers: &[bool], out: &mut [u16]) -> usize

@@ -12,7 +12,7 @@ use Rattle.meaning.specs.Count.{any, total, ascends, tab}
 use Rattle.meaning.specs.declared.Direction.{Direction}
 use Rattle.meaning.specs.Summary.{Row, Summary, noRow, rowOf, rowFor, counted, stated}
 use Rattle.meaning.specs.WellFormed.{way, rowKey, hasRow, numbers, order, wellFormed}
-use Rattle.files.specs.SummaryFile.{wayFrom, labelFrom, summaryIn, exact, wellFormedFile}
+use Rattle.meaning.specs.SummaryFile.{wayFrom, labelFrom, summaryIn, exact, wellFormedFile}
 use Rattle.theory.proofs.CountLaws.{by-bool, no, and-inv, total-any, length-tab, getD-tab}
 use Rattle.theory.proofs.ShapeLaws.{well-parts, any-place, row-is-stated}
 use Rattle.seek.specs.Keys.{Stands}

@@ -7,7 +7,7 @@ ghost use mathlib.Core.Bool.{true};
 ghost use Prim.Native.Nat.{_<_};
 ghost use lib.ListN.{length};
 ghost use Rattle.meaning.specs.Summary as meant;
-ghost use Rattle.files.specs.SummaryFile.{wayFrom, labelFrom, summaryIn, wellFormedFile};
+ghost use Rattle.meaning.specs.SummaryFile.{wayFrom, labelFrom, summaryIn, wellFormedFile};
 ghost use Rattle.wellformed.specs.Keys.{Keyed};
 
 // "No row means count zero."

@@ -10,5 +10,12 @@ pub mod Condense
 pub mod WellFormed
 pub mod Check
 pub mod Decided
--- Small registers of document 01's Examples on their pictures, computed: what breaks first where a definition is bent.
-pub mod Samples
+-- The files, and the whole answer of each call, over bytes
+pub mod Refusals
+pub mod Bytes
+pub mod RegisterFile
+pub mod SummaryFile
+pub mod QuestionFile
+pub mod Answers
+-- P1 to P11 of document 01, computed: what breaks where a definition is bent
+pub mod Examples

@@ -17,7 +17,7 @@ use Rattle.meaning.specs.declared.Direction.{Direction}
 use Rattle.meaning.specs.declared.Direction.the-variants.{Outgoing, Incoming}
 use Rattle.theory.proofs.CountLaws.{by-bool, by-eq, and-inv, sum-split, sum-zero, ascends-at}
 use Rattle.theory.proofs.NeighbourLaws.{neighbours-places}
-use Rattle.files.specs.RegisterFile.{registerIn, linksFine, fault}
+use Rattle.meaning.specs.RegisterFile.{registerIn, linksFine, fault}
 use Rattle.promise.proofs.Access.{fault-none, items-at, links-at, readable}
 use Rattle.register.specs.Told.{OfRegister, OfLink}
 use Rattle.nearby.specs.Nearby.{Last, Outs, Ins, UpTo, Parts}

@@ -7,7 +7,7 @@ ghost use Prim.Native.Nat.{ℕ, _-_, _≤_, _<_};
 ghost use lib.ListN.{length, getD};
 ghost use Rattle.meaning.specs.Register.{linkOf, near};
 ghost use Rattle.meaning.specs.declared.Direction.the-variants.{Outgoing, Incoming};
-ghost use Rattle.files.specs.RegisterFile.{registerIn};
+ghost use Rattle.meaning.specs.RegisterFile.{registerIn};
 ghost use Rattle.register.specs.Told.{OfRegister};
 ghost use Rattle.nearby.specs.Nearby.{Last, Outs, Ins, UpTo, Parts};
 

@@ -7,7 +7,7 @@ use lib.ListN.{getD, length, length-append}
 use lib.Seq.{getD-append-add}
 use Rattle.meaning.specs.Count.{tab, Every}
 use Rattle.theory.proofs.CountLaws.{tab-same}
-use Rattle.files.specs.Bytes.{Bytes, num2, num4, put2, put4, pack}
+use Rattle.meaning.specs.Bytes.{Bytes, num2, num4, put2, put4, pack}
 
 pub two-back : (v : ℕ) → v < 65536 → v / 256 % 256 * 256 + v % 256 ≡ v
 two-back v h = omega arith

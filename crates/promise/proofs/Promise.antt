@@ -25,14 +25,14 @@ use Rattle.theory.proofs.ShapeLaws.{accepted-fine, link-in, well-parts, number-
 use Rattle.theory.proofs.WellMade.{limits, level-least, summary-well-formed, classes-within, rows-within, links-within, map-whole, groups-most, marks-from}
 use Rattle.theory.proofs.Demand.{demand-3, summary-abstraction, summary-answers}
 use Rattle.theory.proofs.CheckLaws.{check-exact}
-use Rattle.files.specs.Bytes.{Bytes, num2, num4, put2, pack}
+use Rattle.meaning.specs.Bytes.{Bytes, num2, num4, put2, pack}
 use Rattle.promise.proofs.BytesLaws.{byte-at}
-use Rattle.files.specs.RegisterFile.{linkAt, registerIn, linksFine, fault}
+use Rattle.meaning.specs.RegisterFile.{linkAt, registerIn, linksFine, fault}
 use Rattle.promise.proofs.Access.{fault-none}
-use Rattle.files.specs.SummaryFile.{summaryIn, summaryBytes, wellFormedFile}
+use Rattle.meaning.specs.SummaryFile.{summaryIn, summaryBytes, wellFormedFile}
 use Rattle.promise.proofs.FileLaws.{ClassSmall, RowSmall, SummarySmall, summary-length, summary-back, summary-exact}
-use Rattle.files.specs.Answers.{Answer, refused, said, wrote, unless, into, condense, check, askTree, askRegister, beyond, askIn, askSummary, listIn, list}
-use Rattle.files.specs.QuestionFile.{when, kind, andKind, kinds, treeOf, question}
+use Rattle.meaning.specs.Answers.{Answer, refused, said, wrote, unless, into, condense, check, askTree, askRegister, beyond, askIn, askSummary, listIn, list}
+use Rattle.meaning.specs.QuestionFile.{when, kind, andKind, kinds, treeOf, question}
 
 -- ---- an accepted file holds an accepted register
 

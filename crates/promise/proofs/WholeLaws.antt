@@ -12,10 +12,10 @@ use lib.Seq.{drop-cons, drop-drop, take-add, take-all}
 use Rattle.meaning.specs.Count.{tab}
 use Rattle.theory.proofs.CountLaws.{by-bool, and-inv, length-tab}
 use Rattle.meaning.specs.WellFormed.{way}
-use Rattle.files.specs.Bytes.{Bytes, num2, num4, put2, put4, pack}
+use Rattle.meaning.specs.Bytes.{Bytes, num2, num4, put2, put4, pack}
 use Rattle.promise.proofs.BytesLaws.{byte-at}
-use Rattle.files.specs.RegisterFile.{linkAt, putLink, registerIn, registerHead, registerBytes, headed, fault}
-use Rattle.files.specs.SummaryFile.{classIs, putClass, wayFrom, labelFrom, rowIs, putRow, summaryIn, summaryHead, summaryBytes, exact}
+use Rattle.meaning.specs.RegisterFile.{linkAt, putLink, registerIn, registerHead, registerBytes, headed, fault}
+use Rattle.meaning.specs.SummaryFile.{classIs, putClass, wayFrom, labelFrom, rowIs, putRow, summaryIn, summaryHead, summaryBytes, exact}
 use Rattle.promise.proofs.Access.{fault-none}
 
 module _ (b : List ℕ) (all : Bytes b) where

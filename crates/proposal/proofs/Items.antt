@@ -19,8 +19,8 @@ use Rattle.meaning.specs.Summary.{Row, Summary, noRow, classAt, groupAt, stated
 use Rattle.meaning.specs.Condense.{rowsAt, by}
 use Rattle.meaning.specs.Check.{rowRight}
 use Rattle.meaning.specs.WellFormed.{within, rowIn, wellFormed}
-use Rattle.files.specs.RegisterFile.{registerIn}
-use Rattle.files.specs.SummaryFile.{summaryIn}
+use Rattle.meaning.specs.RegisterFile.{registerIn}
+use Rattle.meaning.specs.SummaryFile.{summaryIn}
 use Rattle.theory.proofs.CountLaws.{and-inv, and-yes, bool-iff, all-yes, all-at, length-tab, getD-tab, each-every, every-and, every-map}
 use Rattle.theory.proofs.NumberLaws.{getD-below, count-le}
 use Rattle.theory.proofs.ShapeLaws.{well-parts, number-parts}

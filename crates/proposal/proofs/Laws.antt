@@ -17,7 +17,7 @@ use Rattle.meaning.specs.declared.Direction.the-variants.{Outgoing, Incoming}
 use Rattle.meaning.specs.Summary.{Summary, classOf, classAt}
 use Rattle.meaning.specs.Check.{rowRight, imageStands, isImage, fits}
 use Rattle.meaning.specs.WellFormed.{wellFormed}
-use Rattle.files.specs.SummaryFile.{summaryIn, exact, wellFormedFile}
+use Rattle.meaning.specs.SummaryFile.{summaryIn, exact, wellFormedFile}
 use Rattle.theory.proofs.CountLaws.{by-bool, by-eq, no, bool-iff, all-yes, all-at, length-tab}
 use Rattle.theory.proofs.ShapeLaws.{well-parts, well-shaped}
 use Rattle.promise.proofs.Promise.{in-range, size-parts}

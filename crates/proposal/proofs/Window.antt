@@ -12,7 +12,7 @@ use lib.Seq.{length-take-le, getD-take, getD-drop, take-nil, drop-nil}
 use Rattle.meaning.specs.Count.{all, ascends, Every}
 use Rattle.meaning.specs.Summary.{Row, Summary, noRow, rowOf}
 use Rattle.meaning.specs.WellFormed.{rowKey, rowIn, wellFormed}
-use Rattle.files.specs.SummaryFile.{summaryIn}
+use Rattle.meaning.specs.SummaryFile.{summaryIn}
 use Rattle.theory.proofs.CountLaws.{by-bool, each-every, every-at, getD-tab}
 use Rattle.theory.proofs.ShapeLaws.{well-parts, number-parts}
 use Rattle.theory.proofs.OneLaws.{RowFine, row-fine, order-parts, way-small}

@@ -8,7 +8,7 @@ use lib.ListN.{getD, length, take}
 use Rattle.meaning.specs.Register.{Link}
 use Rattle.meaning.specs.Summary.{classOf, classAt}
 use Rattle.meaning.specs.WellFormed.{wellFormed}
-use Rattle.files.specs.SummaryFile.{summaryIn, exact}
+use Rattle.meaning.specs.SummaryFile.{summaryIn, exact}
 use Rattle.wellformed.specs.Keys.{rowKeys}
 
 -- a well-formed summary with n items in its map, and the limits that follow

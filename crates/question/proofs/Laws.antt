@@ -1,5 +1,5 @@
 -- How a question's bytes read as a tree, over lists: one tree at most stands at an entry, which is the tree of the question, and a
--- tree stands at every entry of a question. Leans on theory's ReadingLaws and on files' QuestionFile.
+-- tree stands at every entry of a question. Leans on theory's ReadingLaws and on meaning's QuestionFile.
 use mathlib.Core.Path.{_≡_, refl, sym, ap, subst, _∙_}
 use mathlib.Core.Bool.{Bool, true, false, cond, _&&_}
 use mathlib.Core.List.{List, [], _∷_, _++_}
@@ -15,7 +15,7 @@ use Rattle.meaning.specs.Reading.{entriesOf}
 use Rattle.meaning.specs.declared.Direction.{Direction}
 use Rattle.meaning.specs.declared.Kind.{Kind}
 use Rattle.meaning.specs.declared.Kind.the-variants.{True, Literal, Not, And, Or, AtLeast}
-use Rattle.files.specs.QuestionFile.{kind, andKind, kinds, treeOf, question}
+use Rattle.meaning.specs.QuestionFile.{kind, andKind, kinds, treeOf, question}
 use Rattle.theory.proofs.CountLaws.{by-bool, by-eq}
 use Rattle.theory.proofs.ReadingLaws.{tree-sound, tree-complete}
 use Rattle.entry.specs.Entries.{entryAt}

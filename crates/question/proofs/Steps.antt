@@ -16,9 +16,9 @@ use Rattle.meaning.specs.declared.Direction.{Direction}
 use Rattle.meaning.specs.declared.Kind.{Kind}
 use Rattle.meaning.specs.declared.Kind.the-variants.{True, Literal, Not, And, Or, AtLeast}
 use Rattle.meaning.proofs.Kind.{the-type}
-use Rattle.files.specs.QuestionFile.{question}
-use Rattle.files.specs.declared.Refusal.{Refusal}
-use Rattle.files.specs.declared.Refusal.the-variants.{Question as Malformation}
+use Rattle.meaning.specs.QuestionFile.{question}
+use Rattle.meaning.specs.declared.Refusal.{Refusal}
+use Rattle.meaning.specs.declared.Refusal.the-variants.{Question as Malformation}
 use Rattle.entry.specs.declared.Reading.{Reading}
 use Rattle.entry.specs.declared.Reading.the-variants.{Malformed}
 use Rattle.entry.specs.Entries.{kindOf, entryAt}

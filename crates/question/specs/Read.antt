@@ -1,5 +1,5 @@
 -- What the code's values say in document 01's terms: the tree that stands at an entry, the verdict on a whole question. Leans on
--- entry for what is read of four bytes and on files' QuestionFile for the question that the bytes are.
+-- entry for what is read of four bytes and on meaning's QuestionFile for the question that the bytes are.
 use mathlib.Core.Path.{_≡_}
 use mathlib.Core.List.{List}
 use mathlib.Core.Option.{Option, none, some}
@@ -8,9 +8,9 @@ use lib.IntN.{ℤ}
 use Rattle.meaning.specs.Question.{Question, always, literal, negation, both, either, atLeast, depth, threshold}
 use Rattle.meaning.specs.declared.Direction.{Direction}
 use Rattle.meaning.specs.declared.Kind.the-variants.{True, Literal, Not, And, Or, AtLeast}
-use Rattle.files.specs.QuestionFile.{question}
-use Rattle.files.specs.Refusals.{numberOf}
-use Rattle.files.specs.declared.Refusal.the-variants.{Question as Malformation}
+use Rattle.meaning.specs.QuestionFile.{question}
+use Rattle.meaning.specs.Refusals.{numberOf}
+use Rattle.meaning.specs.declared.Refusal.the-variants.{Question as Malformation}
 use Rattle.entry.specs.Entries.{entryAt}
 use Rattle.question.specs.declared.Spanned.{Spanned}
 use Rattle.question.specs.declared.Spanned.the-variants.{Tree, Refused}

@@ -1,8 +1,8 @@
 // A question: the tree that stands at an entry, and the whole judged, with number 5 where it is malformed. Leans on entry for
 // what is read of four bytes, on meaning for the kinds and on files for the refusals.
 use entry::Reading;
-use files::Refusal;
 use meaning::Kind;
+use meaning::Refusal;
 ghost use mathlib.Core.Path.{_≡_};
 ghost use Prim.Native.Nat.{max};
 ghost use Rattle.question.specs.Read.{Spans, Shallow, verdict, told};

@@ -4,7 +4,7 @@ ghost use mathlib.Core.Path.{_≡_};
 ghost use mathlib.Core.Bool.{true, _||_};
 ghost use Prim.Native.Nat.{_+_, _≤_};
 ghost use lib.Dec.{ltb};
-ghost use Rattle.files.specs.SummaryFile.{summaryIn, wellFormedFile};
+ghost use Rattle.meaning.specs.SummaryFile.{summaryIn, wellFormedFile};
 
 // The question's depth and its greatest threshold, on any of its entries.
 pub fn beyond(s: &[u8], depth: usize, threshold: usize) -> bool

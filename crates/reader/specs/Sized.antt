@@ -1,5 +1,5 @@
 -- What an accessor of a summary file may be asked: a file "of 24 bytes or more; offsets and length are exact", which has such a class,
--- row, class link or item. Leans on files' SummaryFile.
+-- row, class link or item. Leans on meaning's SummaryFile.
 use mathlib.Core.Path.{_≡_}
 use mathlib.Core.Bool.{true}
 use mathlib.Core.List.{List}
@@ -7,7 +7,7 @@ use Prim.Native.Nat.{ℕ, _<_}
 use lib.ListN.{getD, length}
 use Rattle.meaning.specs.Register.{Link, noLink}
 use Rattle.meaning.specs.Summary.{Summary}
-use Rattle.files.specs.SummaryFile.{summaryIn, exact}
+use Rattle.meaning.specs.SummaryFile.{summaryIn, exact}
 
 -- class link number j
 abbrev pub edgeOf : Summary → ℕ → Link

@@ -9,9 +9,9 @@ ghost use Prim.Native.Nat.{_+_, _≤_, _<_};
 ghost use lib.ListN.{length};
 ghost use Rattle.meaning.specs.Summary.{classOf, rowOf, classAt};
 ghost use Rattle.meaning.specs.WellFormed.{way, rowKey};
-ghost use Rattle.files.specs.Bytes.{num2};
-ghost use Rattle.files.specs.RegisterFile.{linkAt};
-ghost use Rattle.files.specs.SummaryFile.{classSize, classIs, rowIs, summaryIn, exact};
+ghost use Rattle.meaning.specs.Bytes.{num2};
+ghost use Rattle.meaning.specs.RegisterFile.{linkAt};
+ghost use Rattle.meaning.specs.SummaryFile.{classSize, classIs, rowIs, summaryIn, exact};
 ghost use Rattle.reader.specs.Sized.{edgeOf, HasClass, HasRow, HasEdge, HasItem};
 
 // Where the header has the four offsets: "classes .., rows .., class links .., map".

@@ -10,8 +10,8 @@ use lib.Dec.{eqb, leb}
 use lib.ListN.{length}
 use Rattle.meaning.specs.Count.{tab}
 use Rattle.meaning.specs.Register.{Link, linkOf}
-use Rattle.files.specs.Bytes.{num2}
-use Rattle.files.specs.RegisterFile.{linksOffset, registerSize, linkAt, registerIn, headed, linksFine, fault, accepted, refused, verdictBy, verdict}
+use Rattle.meaning.specs.Bytes.{num2}
+use Rattle.meaning.specs.RegisterFile.{linksOffset, registerSize, linkAt, registerIn, headed, linksFine, fault, accepted, refused, verdictBy, verdict}
 use Rattle.theory.proofs.CountLaws.{and-inv}
 use Rattle.promise.proofs.Access.{items-at, links-at, link-at, readable}
 use Rattle.links.specs.Order.{inOrder}

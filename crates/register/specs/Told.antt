@@ -1,11 +1,11 @@
--- What the code's values say in document 01's terms, and what an accessor may be asked. Leans on files' RegisterFile.
+-- What the code's values say in document 01's terms, and what an accessor may be asked. Leans on meaning's RegisterFile.
 use mathlib.Core.Path.{_≡_}
 use mathlib.Core.List.{List}
 use Prim.Native.Nat.{ℕ, _<_}
 use lib.ListN.{length}
 use Rattle.meaning.specs.Register.{items}
-use Rattle.files.specs.Refusals.{numberOf}
-use Rattle.files.specs.RegisterFile.{registerIn, fault, Verdict, accepted, refused}
+use Rattle.meaning.specs.Refusals.{numberOf}
+use Rattle.meaning.specs.RegisterFile.{registerIn, fault, Verdict, accepted, refused}
 use Rattle.register.specs.declared.Judged.{Judged}
 use Rattle.register.specs.declared.Judged.the-variants.{Accepted, Refused}
 

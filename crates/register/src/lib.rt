@@ -1,7 +1,7 @@
 // The register file: judged, with document 01's numbers 1, 2 and 3 in their order, and read through accessors that speak of its
 // picture and hand out an Item where the file has an item number. Leans on wire for the bytes and on links for their order.
-use files::Refusal;
 use meaning::Direction;
+use meaning::Refusal;
 use names::Item;
 ghost use mathlib.Core.Path.{_≡_};
 ghost use Prim.Native.Nat.{_+_, _*_, _≤_, _<_};
@@ -9,8 +9,8 @@ ghost use mathlib.Core.Bool.{_&&_};
 ghost use lib.Dec.{leb};
 ghost use lib.ListN.{length};
 ghost use Rattle.meaning.specs.Register.{items, marksOf, linkOf, near as nearEnd, far as farEnd};
-ghost use Rattle.files.specs.Bytes.{num2};
-ghost use Rattle.files.specs.RegisterFile.{linksOffset, registerIn, headed, fault, verdict};
+ghost use Rattle.meaning.specs.Bytes.{num2};
+ghost use Rattle.meaning.specs.RegisterFile.{linksOffset, registerIn, headed, fault, verdict};
 ghost use Rattle.register.specs.Told.{told, OfLink};
 
 // "Limits: n ≤ 1,024, m ≤ 2,048, labels 0 to 15."

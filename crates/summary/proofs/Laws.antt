@@ -7,9 +7,9 @@ use lib.ListN.{length, take, length-append, length-take}
 use lib.Seq.{sets, length-take-le}
 use Rattle.meaning.specs.Summary.{Class, Row, Summary}
 use Rattle.meaning.specs.Register.{Link}
-use Rattle.files.specs.Bytes.{put2, put4, pack}
-use Rattle.files.specs.RegisterFile.{putLink}
-use Rattle.files.specs.SummaryFile.{rowsOffset, edgesOffset, mapOffset, summarySize, putClass, putRow, summaryHead, summaryBytes}
+use Rattle.meaning.specs.Bytes.{put2, put4, pack}
+use Rattle.meaning.specs.RegisterFile.{putLink}
+use Rattle.meaning.specs.SummaryFile.{rowsOffset, edgesOffset, mapOffset, summarySize, putClass, putRow, summaryHead, summaryBytes}
 use Rattle.wire.proofs.Sets.{then}
 use Rattle.summary.specs.Numbers.{classFields, classNumbers, rowNumbers, edgeNumbers, headOf, headNumbers, summaryNumbers, numbers, Parts}
 

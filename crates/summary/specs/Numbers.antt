@@ -7,10 +7,10 @@ use lib.ListN.{length, take}
 use Rattle.meaning.specs.Register.{Link}
 use Rattle.meaning.specs.Summary.{Class, Row, Summary}
 use Rattle.meaning.specs.WellFormed.{way}
-use Rattle.files.specs.Bytes.{pack}
-use Rattle.files.specs.SummaryFile.{rowsOffset, edgesOffset, mapOffset}
+use Rattle.meaning.specs.Bytes.{pack}
+use Rattle.meaning.specs.SummaryFile.{rowsOffset, edgesOffset, mapOffset}
 
--- how many numbers a class record has: half of files' classSize
+-- how many numbers a class record has: half of meaning's classSize
 abbrev pub classFields : ℕ
 classFields = 4
 

@@ -4,7 +4,7 @@ ghost use mathlib.Core.Path.{_≡_};
 ghost use Prim.Native.Nat.{_+_, _*_, _≤_};
 ghost use lib.ListN.{length};
 ghost use lib.Seq.{sets};
-ghost use Rattle.files.specs.Bytes.{put2, pack};
+ghost use Rattle.meaning.specs.Bytes.{put2, pack};
 ghost use Rattle.summary.specs.Numbers.{Parts, numbers, headOf};
 
 // How many numbers a class record, a row and a class link have.

@@ -15,7 +15,7 @@ use Rattle.theory.proofs.NeighbourLaws.{neighbours-places}
 use Rattle.meaning.specs.Count.{sum, tally}
 use Rattle.meaning.specs.Register.{Link, Register, linkOf, near, far, leads, neighbours}
 use Rattle.meaning.specs.declared.Direction.{Direction}
-use Rattle.files.specs.RegisterFile.{registerIn}
+use Rattle.meaning.specs.RegisterFile.{registerIn}
 use Rattle.promise.proofs.Access.{items-at, links-at, readable}
 use Rattle.table.specs.Row.{row, Writes, Counts, Below, Adds}
 use Rattle.register.specs.Told.{OfRegister}

@@ -6,7 +6,7 @@ use mathlib.Core.List.{List}
 use lib.ListN.{length, getD}
 use Rattle.meaning.specs.Register.{neighbours}
 use Rattle.meaning.specs.declared.Direction.{Direction}
-use Rattle.files.specs.RegisterFile.{registerIn}
+use Rattle.meaning.specs.RegisterFile.{registerIn}
 
 -- what row j says at item x
 abbrev pub row : List Bool → ℕ → ℕ → Bool

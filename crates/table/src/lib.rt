@@ -7,7 +7,7 @@ ghost use Prim.Native.Nat.{ℕ, _+_, _*_, _≤_, _<_};
 ghost use lib.Dec.{leb};
 ghost use lib.ListN.{length, getD};
 ghost use Rattle.meaning.specs.Register.{leads, linkOf};
-ghost use Rattle.files.specs.RegisterFile.{registerIn};
+ghost use Rattle.meaning.specs.RegisterFile.{registerIn};
 ghost use Rattle.register.specs.Told.{OfLink, OfRegister};
 ghost use Rattle.table.specs.Row.{Room, row, Writes, paired, Counts, Below, Adds};
 

@@ -11,7 +11,7 @@ pub fn letter(said: Said) -> u8 {
     match said {
         Said::Yes => b'y',
         Said::No => b'n',
-        Said::Refused(refusal) => b'0' + files::number(refusal) % 10,
+        Said::Refused(refusal) => b'0' + meaning::number(refusal) % 10,
     }
 }
 

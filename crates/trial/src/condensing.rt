@@ -69,7 +69,7 @@ impl Answer {
         match wrote {
             Wrote::Length(length) => line.word(b"wrote").number(length as u64).number(self.hash),
             Wrote::Refused(refusal) => line.word(b"refused")
-                .number(files::number(refusal) as u64)
+                .number(meaning::number(refusal) as u64)
                 .number(self.hash),
         }
     }

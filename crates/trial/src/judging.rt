@@ -21,7 +21,7 @@ fn tell(line: Line, verdict: Judged) {
         }
         Judged::Refused(refusal) => {
             line.word(b"refused")
-                .number(files::number(refusal) as u64)
+                .number(meaning::number(refusal) as u64)
                 .print();
         }
     }

@@ -13,8 +13,8 @@ use Rattle.meaning.specs.Summary.{Class, Row, Summary, noClass, noRow, classOf,
 use Rattle.meaning.specs.WellFormed.{inRange, classIn, rowIn, linkIn, linkKey, rowKey, sizes, numbers, order, groupsUsed, rowsMatch, wellFormed}
 use Rattle.theory.proofs.CountLaws.{by-bool, no, and-inv, and-yes, bool-iff, sum-total, one-of, total-le, total-length, any-total, every-getD, all-at, all-yes, any-at}
 use Rattle.theory.proofs.ShapeLaws.{well-parts, number-parts, any-place}
-use Rattle.files.specs.Bytes.{num2}
-use Rattle.files.specs.SummaryFile.{rowsOffset, edgesOffset, mapOffset, summarySize, summaryIn, exact, wellFormedFile}
+use Rattle.meaning.specs.Bytes.{num2}
+use Rattle.meaning.specs.SummaryFile.{rowsOffset, edgesOffset, mapOffset, summarySize, summaryIn, exact, wellFormedFile}
 use Rattle.promise.proofs.Promise.{size-parts, in-range}
 use Rattle.reader.proofs.Laws.{Laid, laid}
 use Rattle.wellformed.specs.Keys.{Sized}

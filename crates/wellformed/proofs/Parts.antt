@@ -13,9 +13,9 @@ use Rattle.meaning.specs.declared.Direction.{Direction}
 use Rattle.meaning.specs.declared.Direction.the-variants.{Outgoing, Incoming}
 use Rattle.meaning.specs.Summary.{Class, Row, Summary, classOf, rowOf}
 use Rattle.meaning.specs.WellFormed.{within, way, linkIn, linkKey, classIn, rowIn, sizes}
-use Rattle.files.specs.Bytes.{num2}
-use Rattle.files.specs.RegisterFile.{linkAt}
-use Rattle.files.specs.SummaryFile.{edgesOffset, wayFrom, labelFrom, rowIs, summaryIn, exact}
+use Rattle.meaning.specs.Bytes.{num2}
+use Rattle.meaning.specs.RegisterFile.{linkAt}
+use Rattle.meaning.specs.SummaryFile.{edgesOffset, wayFrom, labelFrom, rowIs, summaryIn, exact}
 use Rattle.theory.proofs.CountLaws.{by-bool}
 use Rattle.promise.proofs.Promise.{size-parts}
 use Rattle.links.specs.Order.{inOrder}

@@ -11,7 +11,7 @@ use Rattle.meaning.specs.declared.Direction.{Direction}
 use Rattle.meaning.specs.declared.Direction.the-variants.{Outgoing, Incoming}
 use Rattle.meaning.specs.Summary.{Summary, classOf, rowOf}
 use Rattle.meaning.specs.WellFormed.{way, rowKey}
-use Rattle.files.specs.SummaryFile.{summaryIn, exact}
+use Rattle.meaning.specs.SummaryFile.{summaryIn, exact}
 
 -- class, direction with label, and group side by side, as in `rowKey`
 unfoldable pub keyFor : ℕ → Direction → ℕ → ℕ → ℕ

@@ -1,5 +1,5 @@
 -- What a write leaves of a lent buffer, for every crate that writes: parts one after another, records one after another, and a
--- whole answer at the front. `sets d at p` is d with p written over it from place at. Leans on lib.Seq and on files' Bytes.
+-- whole answer at the front. `sets d at p` is d with p written over it from place at. Leans on lib.Seq and on meaning's Bytes.
 use mathlib.Core.Path.{_≡_, refl, sym, ap, _∙_}
 use mathlib.Core.List.{List, [], _∷_, _++_, append-assoc, append-nil}
 use Prim.Native.Nat.{ℕ, zero, suc, _+_, _*_, _≤_}
@@ -9,8 +9,8 @@ use native.Mathlib.Numerals.{add-one}
 use lib.ListN.{length, getD, set, take, length-append}
 use lib.Seq.{sets, sets-eq, take-suc}
 use Rattle.meaning.specs.Count.{tab, join}
-use Rattle.files.specs.Bytes.{put2, pack}
-use Rattle.files.specs.Answers.{wrote, left}
+use Rattle.meaning.specs.Bytes.{put2, pack}
+use Rattle.meaning.specs.Answers.{wrote, left}
 
 -- ---- one part after another
 

@@ -4,7 +4,7 @@ ghost use mathlib.Core.Path.{_≡_};
 ghost use Prim.Native.Nat.{_+_, _*_, _≤_};
 ghost use lib.ListN.{length, take};
 ghost use lib.Seq.{sets};
-ghost use Rattle.files.specs.Bytes.{num2, num4, put2, put4, pack};
+ghost use Rattle.meaning.specs.Bytes.{num2, num4, put2, put4, pack};
 
 pub fn two(b: &[u8], at: usize) -> u16
     requires { ⌜ at + 2 ≤ length (now b) ⌝ }

@@ -5,7 +5,7 @@ use mathlib.Core.List.{List, _++_}
 use Prim.Native.Nat.{ℕ}
 use lib.ListN.{drop}
 use Rattle.meaning.specs.Level.{classCount}
-use Rattle.files.specs.RegisterFile.{registerIn}
+use Rattle.meaning.specs.RegisterFile.{registerIn}
 use Rattle.register.proofs.Laws.{few-items}
 use Rattle.alike.proofs.ByLevel.{marked}
 use borrow.Author.Needs.{needs}

@@ -1,6 +1,6 @@
 -- Two calls: level 0, then the steps.
 use native.Mathlib.Omega.{arith}
-use Rattle.files.specs.RegisterFile.{registerIn}
+use Rattle.meaning.specs.RegisterFile.{registerIn}
 use Rattle.register.proofs.Laws.{limits}
 use Rattle.alike.proofs.ByLevel.{take-level, reached-from}
 use borrow.Author.Needs.{needs}

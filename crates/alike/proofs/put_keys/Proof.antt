@@ -4,7 +4,7 @@ use mathlib.Core.Path.{_≡_, refl}
 use Prim.Native.Nat.{_-_, _≤_}
 use lib.ListN.{length, length-set}
 use Rattle.meaning.specs.Register.{linkOf}
-use Rattle.files.specs.RegisterFile.{registerIn}
+use Rattle.meaning.specs.RegisterFile.{registerIn}
 use Rattle.lists.specs.Writes.{Writes}
 use Rattle.lists.proofs.Laws.{writes-none, writes-next}
 use Rattle.alike.specs.Step.{keyOf}

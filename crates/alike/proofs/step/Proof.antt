@@ -6,7 +6,7 @@ use Prim.Native.Nat.{ℕ}
 use lib.ListN.{drop, take}
 use lib.Seq.{getD-take}
 use Rattle.meaning.specs.Level.{classCount}
-use Rattle.files.specs.RegisterFile.{registerIn}
+use Rattle.meaning.specs.RegisterFile.{registerIn}
 use Rattle.register.proofs.Laws.{limits}
 use Rattle.alike.proofs.Keys.{list-few}
 use Rattle.alike.proofs.Laws.{rows-stand, rows-laid, step-numbers}

@@ -3,7 +3,7 @@ use mathlib.Core.Path.{subst, _≡_}
 use Prim.Native.Nat.{ℕ, _-_, _≤_, _<_}
 use native.Mathlib.Omega.{arith}
 use lib.ListN.{length, take, length-replicate}
-use Rattle.files.specs.RegisterFile.{registerIn}
+use Rattle.meaning.specs.RegisterFile.{registerIn}
 use Rattle.classes.proofs.Laws.{Under, none-entered, n-items, class-small, entered-in, sorted-all}
 use Rattle.classes.proofs.records.Statement.{statement}
 use Rattle.classes.proofs.records.Tie as tie

@@ -8,7 +8,7 @@ use lib.IntN.{ℤ}
 use lib.ListN.{length, getD}
 use Rattle.meaning.specs.Summary.{rowOf, lowestClass}
 use Rattle.meaning.specs.declared.Kind.the-variants.{Literal}
-use Rattle.files.specs.SummaryFile.{summaryIn}
+use Rattle.meaning.specs.SummaryFile.{summaryIn}
 use Rattle.entry.specs.Entries.{entryAt}
 use Rattle.entry.proofs.Laws.{is-entry, within-entry, literal-back, literal-read, least-read}
 use Rattle.question.proofs.Steps.{Two, two-of}

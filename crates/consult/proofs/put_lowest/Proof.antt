@@ -3,7 +3,7 @@ use mathlib.Core.Path.{_≡_, _∙_}
 use Prim.Native.Nat.{_-_, _≤_}
 use native.Mathlib.Omega.{arith}
 use lib.ListN.{length, length-set}
-use Rattle.files.specs.SummaryFile.{summaryIn}
+use Rattle.meaning.specs.SummaryFile.{summaryIn}
 use Rattle.wellformed.proofs.Laws.{well-file}
 use Rattle.consult.proofs.Lowest.{Entered, none-entered, one-entered, all-entered, class-low}
 use borrow.Author.Needs.{needs}

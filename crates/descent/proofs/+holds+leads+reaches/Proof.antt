@@ -8,7 +8,7 @@ use lib.IntN.{ℤ}
 use lib.ListN.{length, getD}
 use Rattle.meaning.specs.Question.{holds as holds-in}
 use Rattle.meaning.specs.declared.Kind.the-variants.{Literal}
-use Rattle.files.specs.RegisterFile.{registerIn}
+use Rattle.meaning.specs.RegisterFile.{registerIn}
 use Rattle.register.specs.Told.{OfLink}
 use Rattle.entry.specs.Entries.{entryAt}
 use Rattle.entry.proofs.Laws.{is-entry, within-entry, literal-back, literal-read, least-read}

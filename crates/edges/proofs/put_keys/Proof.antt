@@ -6,7 +6,7 @@ use native.Mathlib.Omega.{arith}
 use lib.ListN.{length, take, drop, length-set}
 use Rattle.meaning.specs.Count.{tab}
 use Rattle.meaning.specs.Register.{linkOf}
-use Rattle.files.specs.RegisterFile.{registerIn}
+use Rattle.meaning.specs.RegisterFile.{registerIn}
 use Rattle.order.proofs.Front.{tab-none, tab-more}
 use Rattle.edges.specs.Keys.{keyOf}
 use Rattle.edges.proofs.put_keys.Statement.{statement}

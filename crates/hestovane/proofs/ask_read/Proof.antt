@@ -1,7 +1,7 @@
 -- 7, 8, and then what holds at the item's class; 5 cannot come any more.
 use native.Mathlib.Omega.{arith}
 use mathlib.Core.Path.{sym, ap, _∙_}
-use Rattle.files.specs.Answers.{word}
+use Rattle.meaning.specs.Answers.{word}
 use Rattle.question.proofs.Laws.{parsed-question}
 use Rattle.wellformed.proofs.Laws.{well-file}
 use Rattle.listed.proofs.Laws.{mapped}

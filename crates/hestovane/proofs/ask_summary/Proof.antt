@@ -1,7 +1,7 @@
 -- 6, then 5.
 use mathlib.Core.Path.{sym, ap, _∙_}
 use borrow.Author.Tests.{not-true, not-false}
-use Rattle.files.specs.Answers.{number}
+use Rattle.meaning.specs.Answers.{number}
 use Rattle.question.specs.Read.{told}
 use Rattle.question.proofs.Laws.{verdict-accepted, verdict-refused}
 use Rattle.wellformed.proofs.Loops.{keyed-as}

@@ -1,7 +1,7 @@
 -- 8 where the item is not one of the register's, and else what the question says there.
 use mathlib.Core.Path.{ap, _∙_}
 use native.Mathlib.Omega.{arith}
-use Rattle.files.specs.Answers.{word}
+use Rattle.meaning.specs.Answers.{word}
 use Rattle.hestovane.proofs.Laws.{ask-beyond, ask-said, never-refused, same-word}
 use borrow.Author.Needs.{needs}
 use Rattle.hestovane.proofs.ask_whole.Statement.{statement}

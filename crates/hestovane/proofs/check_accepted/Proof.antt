@@ -1,6 +1,6 @@
 -- What the check says, or 6.
 use mathlib.Core.Path.{sym, ap, _∙_}
-use Rattle.files.specs.Answers.{word}
+use Rattle.meaning.specs.Answers.{word}
 use Rattle.wellformed.proofs.Loops.{keyed-as}
 use Rattle.hestovane.proofs.Laws.{check-six, check-said}
 use borrow.Author.Needs.{needs}

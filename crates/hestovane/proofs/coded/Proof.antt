@@ -2,7 +2,7 @@
 use mir.Syntax.{w32}
 use mir.Facts.{toZ-ofZ}
 use mathlib.Core.Path.{sym, _∙_}
-use Rattle.files.specs.Answers.{code}
+use Rattle.meaning.specs.Answers.{code}
 use borrow.Author.Needs.{needs}
 use Rattle.hestovane.proofs.coded.Statement.{statement}
 use Rattle.hestovane.proofs.coded.Tie as tie

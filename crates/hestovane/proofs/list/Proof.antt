@@ -4,7 +4,7 @@ use borrow.Author.Tests.{not-true, not-false}
 use Rattle.question.specs.Read.{told}
 use Rattle.question.proofs.Laws.{verdict-accepted, verdict-refused}
 use Rattle.wellformed.proofs.Loops.{keyed-as}
-use Rattle.files.specs.Answers
+use Rattle.meaning.specs.Answers
 use Rattle.hestovane.proofs.Laws.{gives-this}
 use Rattle.hestovane.proofs.OnSummary.{list-six, list-five, readied, gives-refused}
 use borrow.Author.Needs.{needs}

@@ -4,8 +4,8 @@ use mathlib.Core.Path.{_≡_, sym, ap, _∙_}
 use mathlib.Core.List.{List}
 use Prim.Native.Nat.{ℕ}
 use lib.ListN.{length}
-use Rattle.files.specs.Bytes.{put2, pack}
-use Rattle.files.specs.Answers.{into}
+use Rattle.meaning.specs.Bytes.{put2, pack}
+use Rattle.meaning.specs.Answers.{into}
 use Rattle.question.proofs.Laws.{parsed-question}
 use Rattle.inquiry.proofs.Laws.{not-refused}
 use Rattle.hestovane.proofs.Laws.{gives-this}

@@ -3,7 +3,7 @@ use mir.Syntax.{w32}
 use mir.Facts.{toZ-ofZ, toZ-pos}
 use native.Mathlib.Omega.{arith}
 use mathlib.Core.Path.{sym, _∙_}
-use Rattle.files.specs.Answers.{code}
+use Rattle.meaning.specs.Answers.{code}
 use borrow.Author.Needs.{needs, sfits-of}
 use Rattle.hestovane.proofs.Laws.{short-length}
 use Rattle.hestovane.proofs.measured.Statement.{statement}

@@ -1,5 +1,5 @@
 -- Minus the number that each refusal has.
-use Rattle.files.specs.Answers.{code}
+use Rattle.meaning.specs.Answers.{code}
 use borrow.Author.Needs.{needs}
 use Rattle.hestovane.proofs.minus.Statement.{statement}
 use Rattle.hestovane.proofs.minus.Tie as tie

@@ -1,6 +1,6 @@
 -- Yes is true and no is false.
 use mathlib.Core.Path.{ap, sym}
-use Rattle.files.specs.Answers.{word}
+use Rattle.meaning.specs.Answers.{word}
 use Rattle.hestovane.proofs.spoken.Statement.{statement}
 use Rattle.hestovane.proofs.spoken.Tie as tie
 

@@ -4,7 +4,7 @@ use mathlib.Core.Path.{_≡_, refl}
 use Prim.Native.Nat.{_+_, _-_, _/_, _≤_}
 use native.Mathlib.Omega.{arith}
 use lib.ListN.{length}
-use Rattle.files.specs.RegisterFile.{registerIn}
+use Rattle.meaning.specs.RegisterFile.{registerIn}
 use Rattle.inquiry.specs.Known.{Known}
 use Rattle.inquiry.proofs.Laws.{known-none, known-from, few-entries, not-refused}
 use borrow.Author.Needs.{needs}

@@ -9,7 +9,7 @@ use Prim.Native.Nat.{ℕ, _-_, _≤_}
 use native.Mathlib.Omega.{arith}
 use Rattle.meaning.specs.Register.{marksOf}
 use Rattle.meaning.specs.Question.{shows}
-use Rattle.files.specs.RegisterFile.{registerIn}
+use Rattle.meaning.specs.RegisterFile.{registerIn}
 use Rattle.table.proofs.Laws.{Part, part-none, part-next, part-all}
 use Rattle.inquiry.proofs.put_literal.Statement.{statement}
 use Rattle.inquiry.proofs.put_literal.Tie as tie

@@ -1,6 +1,6 @@
 -- Two numbers of two bytes.
 use native.Mathlib.Omega.{arith}
-use Rattle.files.specs.RegisterFile.{linkAt}
+use Rattle.meaning.specs.RegisterFile.{linkAt}
 use borrow.Author.Needs.{needs}
 use Rattle.links.proofs.rest_at.Statement.{statement}
 use Rattle.links.proofs.rest_at.Tie as tie

@@ -6,7 +6,7 @@ use Prim.Native.Nat.{ℕ, _-_, _≤_}
 use lib.ListN.{length, getD, take}
 use Rattle.meaning.specs.Count.{those}
 use Rattle.meaning.specs.Summary.{classAt}
-use Rattle.files.specs.SummaryFile.{summaryIn}
+use Rattle.meaning.specs.SummaryFile.{summaryIn}
 use Rattle.wellformed.proofs.Laws.{well-file, sized-file}
 use Rattle.listed.proofs.Laws.{none-yet, at-most, class-low, next-named}
 use borrow.Author.Needs.{needs}

@@ -2,7 +2,7 @@
 use mathlib.Core.Path.{sym, _∙_}
 use Prim.Native.Nat.{_≤_}
 use native.Mathlib.Omega.{arith}
-use Rattle.files.specs.RegisterFile.{registerIn}
+use Rattle.meaning.specs.RegisterFile.{registerIn}
 use Rattle.nearby.proofs.Laws.{has-link, Passed, passed-next, passed-found, passed-all}
 use Rattle.nearby.proofs.down.Statement.{statement}
 use Rattle.nearby.proofs.down.Tie as tie

@@ -1,7 +1,7 @@
 -- Links below low have no later source than x, and those from high on have.
 use Prim.Native.Nat.{_-_, _≤_}
 use native.Mathlib.Omega.{arith}
-use Rattle.files.specs.RegisterFile.{registerIn}
+use Rattle.meaning.specs.RegisterFile.{registerIn}
 use Rattle.nearby.specs.Nearby.{Parts}
 use Rattle.nearby.proofs.Laws.{has-link, parts-none, parts-up, parts-down, parts-met}
 use Rattle.nearby.proofs.past.Statement.{statement}

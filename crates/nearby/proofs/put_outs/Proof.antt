@@ -5,7 +5,7 @@ use native.Mathlib.Omega.{arith}
 use borrow.Author.Needs.{needs}
 use lib.ListN.{length, length-set}
 use Rattle.meaning.specs.declared.Direction.the-variants.{Outgoing}
-use Rattle.files.specs.RegisterFile.{registerIn}
+use Rattle.meaning.specs.RegisterFile.{registerIn}
 use Rattle.register.proofs.Laws.{limits}
 use Rattle.nearby.proofs.Laws.{has-link, Heads, heads-none, heads-next, source-near, outs-all}
 use Rattle.nearby.proofs.put_outs.Statement.{statement}

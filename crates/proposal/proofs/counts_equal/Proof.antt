@@ -9,7 +9,7 @@ use lib.ListN.{getD-replicate, length-replicate}
 use Rattle.meaning.specs.Count.{tally}
 use Rattle.meaning.specs.Cap.{cap}
 use Rattle.meaning.specs.Summary.{classOf, classAt}
-use Rattle.files.specs.SummaryFile.{summaryIn}
+use Rattle.meaning.specs.SummaryFile.{summaryIn}
 use Rattle.theory.proofs.CountLaws.{all-yes, all-no}
 use Rattle.proposal.proofs.Laws.{told-yes, told-no}
 use borrow.Author.Needs.{needs}

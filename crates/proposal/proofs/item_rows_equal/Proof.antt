@@ -7,7 +7,7 @@ use borrow.Author.Count.{below-more}
 use borrow.Author.Tests.{not-true, not-false}
 use lib.ListN.{getD}
 use Rattle.meaning.specs.Summary.{classAt}
-use Rattle.files.specs.SummaryFile.{summaryIn}
+use Rattle.meaning.specs.SummaryFile.{summaryIn}
 use Rattle.theory.proofs.CountLaws.{all-yes, all-no}
 use Rattle.proposal.specs.Rows.{classRows, sameWords}
 use Rattle.proposal.proofs.item_rows_equal.Statement.{statement}

@@ -4,8 +4,8 @@ use mathlib.Core.List.{List}
 use Prim.Native.Nat.{ℕ}
 use native.Mathlib.Omega.{arith}
 use Rattle.meaning.specs.Count.{ascends}
-use Rattle.files.specs.RegisterFile.{registerIn}
-use Rattle.files.specs.SummaryFile.{summaryIn}
+use Rattle.meaning.specs.RegisterFile.{registerIn}
+use Rattle.meaning.specs.SummaryFile.{summaryIn}
 use Rattle.register.proofs.Laws.{limits}
 use Rattle.alike.proofs.Keys.{of-fine}
 use Rattle.seek.specs.Keys.{sameMembers}

@@ -7,8 +7,8 @@ use borrow.Author.Count.{below-more}
 use lib.Dec.{eqb}
 use Rattle.meaning.specs.Register.{marksOf}
 use Rattle.meaning.specs.Summary.{classOf, classAt}
-use Rattle.files.specs.RegisterFile.{registerIn}
-use Rattle.files.specs.SummaryFile.{summaryIn}
+use Rattle.meaning.specs.RegisterFile.{registerIn}
+use Rattle.meaning.specs.SummaryFile.{summaryIn}
 use Rattle.theory.proofs.CountLaws.{all-yes, all-no}
 use Rattle.proposal.proofs.Laws.{told-yes, told-no}
 use Rattle.proposal.proofs.marks_equal.Statement.{statement}

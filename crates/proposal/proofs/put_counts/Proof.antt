@@ -7,7 +7,7 @@ use lib.ListN.{getD, length, length-set}
 use Rattle.meaning.specs.Count.{tally}
 use Rattle.meaning.specs.Cap.{cap}
 use Rattle.meaning.specs.Summary.{classAt}
-use Rattle.files.specs.SummaryFile.{summaryIn}
+use Rattle.meaning.specs.SummaryFile.{summaryIn}
 use Rattle.proposal.proofs.Laws.{counted-none, counted-next}
 use borrow.Author.Needs.{needs}
 use Rattle.proposal.proofs.put_counts.Statement.{statement}

@@ -6,7 +6,7 @@ use native.Mathlib.Omega.{arith}
 use lib.ListN.{length, drop, length-set}
 use Rattle.meaning.specs.Count.{tab}
 use Rattle.meaning.specs.Summary.{classOf, groupAt}
-use Rattle.files.specs.SummaryFile.{summaryIn}
+use Rattle.meaning.specs.SummaryFile.{summaryIn}
 use Rattle.order.proofs.Front.{tab-none, tab-more}
 use Rattle.proposal.proofs.put_groups.Statement.{statement}
 use Rattle.proposal.proofs.put_groups.Tie as tie

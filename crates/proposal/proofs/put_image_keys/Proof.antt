@@ -7,8 +7,8 @@ use lib.ListN.{length, drop, length-set}
 use Rattle.meaning.specs.Count.{tab}
 use Rattle.meaning.specs.Register.{linkOf}
 use Rattle.meaning.specs.Summary.{classAt}
-use Rattle.files.specs.RegisterFile.{registerIn}
-use Rattle.files.specs.SummaryFile.{summaryIn}
+use Rattle.meaning.specs.RegisterFile.{registerIn}
+use Rattle.meaning.specs.SummaryFile.{summaryIn}
 use Rattle.order.proofs.Front.{tab-none, tab-more}
 use Rattle.proposal.specs.Proposed.{keyBy}
 use Rattle.proposal.proofs.Images.{key-made}

@@ -5,7 +5,7 @@ use Prim.Native.Nat.{_-_, _≤_}
 use native.Mathlib.Omega.{arith}
 use lib.ListN.{length, drop, length-set}
 use Rattle.meaning.specs.Count.{tab}
-use Rattle.files.specs.SummaryFile.{summaryIn}
+use Rattle.meaning.specs.SummaryFile.{summaryIn}
 use Rattle.reader.specs.Sized.{edgeOf}
 use Rattle.order.proofs.Front.{tab-none, tab-more}
 use Rattle.proposal.specs.Proposed.{keyBy}

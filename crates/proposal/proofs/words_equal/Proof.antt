@@ -7,7 +7,7 @@ use borrow.Author.Count.{below-more}
 use lib.Dec.{eqb}
 use lib.ListN.{getD}
 use Rattle.meaning.specs.Summary.{rowOf}
-use Rattle.files.specs.SummaryFile.{summaryIn}
+use Rattle.meaning.specs.SummaryFile.{summaryIn}
 use Rattle.theory.proofs.CountLaws.{all-yes, all-no}
 use Rattle.alike.specs.Step.{wordOf}
 use Rattle.proposal.proofs.Laws.{told-yes, told-no}

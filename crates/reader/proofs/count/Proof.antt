@@ -1,7 +1,7 @@
 -- The item count of a class: the last number of its record.
 use mathlib.Core.Path.{sym, ap, _∙_}
 use Rattle.meaning.specs.Summary.{Class}
-use Rattle.files.specs.SummaryFile.{classIs}
+use Rattle.meaning.specs.SummaryFile.{classIs}
 use borrow.Author.Needs.{needs}
 use Rattle.reader.proofs.count.Statement.{statement}
 use Rattle.reader.proofs.count.Tie as tie

@@ -1,7 +1,7 @@
 -- The class of a row.
 use mathlib.Core.Path.{sym, ap, _∙_}
 use Rattle.meaning.specs.Summary.{Row}
-use Rattle.files.specs.SummaryFile.{rowIs}
+use Rattle.meaning.specs.SummaryFile.{rowIs}
 use borrow.Author.Needs.{needs}
 use Rattle.reader.proofs.row_class.Statement.{statement}
 use Rattle.reader.proofs.row_class.Tie as tie

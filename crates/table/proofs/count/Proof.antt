@@ -2,7 +2,7 @@
 use mathlib.Core.Path.{_≡_, refl, _∙_}
 use Prim.Native.Nat.{_-_, _≤_}
 use native.Mathlib.Omega.{arith}
-use Rattle.files.specs.RegisterFile.{registerIn}
+use Rattle.meaning.specs.RegisterFile.{registerIn}
 use Rattle.table.specs.Row.{row}
 use Rattle.table.proofs.Laws.{Tallied, tallied-none, tallied-next, tallied-small, tallied-all}
 use Rattle.register.proofs.Laws.{limits}

@@ -8,7 +8,7 @@ use borrow.Author.Tests.{not-true, not-false}
 use borrow.Author.Count.{below-more}
 use Rattle.meaning.specs.Summary.{classOf}
 use Rattle.meaning.specs.WellFormed.{classIn}
-use Rattle.files.specs.SummaryFile.{summaryIn}
+use Rattle.meaning.specs.SummaryFile.{summaryIn}
 use Rattle.theory.proofs.ShapeLaws.{class-group}
 use Rattle.wellformed.proofs.Loops.{Marked, none-marked, one-marked, classes-by, class-out, groups-many}
 use borrow.Author.Needs.{needs}

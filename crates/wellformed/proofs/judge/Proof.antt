@@ -1,7 +1,7 @@
 -- The offsets and the length, the sizes, the ranges; then the parts.
 use mathlib.Core.Path.{sym, _∙_}
 use borrow.Author.Tests.{not-true, not-false}
-use Rattle.files.specs.SummaryFile.{summaryIn}
+use Rattle.meaning.specs.SummaryFile.{summaryIn}
 use Rattle.wellformed.proofs.Laws.{not-exact, when-exact, no-sizes, no-range, ranged, sized-of}
 use Rattle.wellformed.proofs.Loops.{keyed-no}
 use borrow.Author.Needs.{needs}

@@ -4,7 +4,7 @@ use Prim.Native.Nat.{ℕ, _-_, _≤_, _<_}
 use lib.ListN.{length}
 use borrow.Author.Count.{below-more}
 use Rattle.meaning.specs.Summary.{classAt}
-use Rattle.files.specs.SummaryFile.{summaryIn}
+use Rattle.meaning.specs.SummaryFile.{summaryIn}
 use Rattle.wellformed.proofs.Loops.{map-no, map-all}
 use borrow.Author.Needs.{needs}
 use Rattle.wellformed.proofs.map_fine.Statement.{statement}

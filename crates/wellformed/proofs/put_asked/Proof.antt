@@ -3,7 +3,7 @@ use native.Mathlib.Omega.{arith}
 use mathlib.Core.Path.{_≡_, refl}
 use Prim.Native.Nat.{_-_, _≤_}
 use lib.ListN.{length, length-set}
-use Rattle.files.specs.SummaryFile.{summaryIn}
+use Rattle.meaning.specs.SummaryFile.{summaryIn}
 use Rattle.lists.specs.Writes.{Writes}
 use Rattle.lists.proofs.Laws.{writes-none, writes-next}
 use Rattle.wellformed.specs.Keys.{askedKey}

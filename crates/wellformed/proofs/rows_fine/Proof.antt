@@ -7,7 +7,7 @@ use lib.ListN.{length, getD, length-set}
 use borrow.Author.Tests.{not-true, not-false}
 use borrow.Author.Count.{below-more}
 use Rattle.theory.proofs.CountLaws.{past}
-use Rattle.files.specs.SummaryFile.{summaryIn}
+use Rattle.meaning.specs.SummaryFile.{summaryIn}
 use Rattle.wellformed.proofs.Loops.{key, rowRises, row-out, row-falls, row-rises, rows-all, past-none, past-next, keys-kept, keyed-no, key-set}
 use borrow.Author.Needs.{needs}
 use Rattle.wellformed.proofs.rows_fine.Statement.{statement}

@@ -1,5 +1,5 @@
 -- `four` reads two numbers of two bytes.
-use Rattle.files.specs.Bytes.{num4}
+use Rattle.meaning.specs.Bytes.{num4}
 use borrow.Author.Needs.{needs}
 use Rattle.wire.proofs.four.Statement.{statement}
 use Rattle.wire.proofs.four.Tie as tie

@@ -1,7 +1,7 @@
 -- `put_four` writes two numbers of two bytes, one behind the other.
 use mathlib.Core.Path.{refl}
 use Prim.Native.Nat.{_+_, _/_, _%_}
-use Rattle.files.specs.Bytes.{put2, put4}
+use Rattle.meaning.specs.Bytes.{put2, put4}
 use Rattle.wire.proofs.Sets.{then}
 use borrow.Author.Needs.{needs}
 use Rattle.wire.proofs.put_four.Statement.{statement}

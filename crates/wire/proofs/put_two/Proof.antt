@@ -2,7 +2,7 @@
 use native.Mathlib.Omega.{arith}
 use native.Mathlib.Numerals.{add-one}
 use lib.ListN.{length-set}
-use Rattle.files.specs.Bytes.{put2}
+use Rattle.meaning.specs.Bytes.{put2}
 use borrow.Author.Needs.{needs}
 use Rattle.wire.proofs.put_two.Statement.{statement}
 use Rattle.wire.proofs.put_two.Tie as tie

@@ -3,7 +3,7 @@ use mathlib.Core.Path.{refl}
 use Prim.Native.Nat.{_+_}
 use native.Mathlib.Omega.{arith}
 use borrow.Author.Needs.{needs}
-use Rattle.files.specs.Bytes.{num2}
+use Rattle.meaning.specs.Bytes.{num2}
 use Rattle.wire.proofs.two.Statement.{statement}
 use Rattle.wire.proofs.two.Tie as tie
 

@@ -5,8 +5,8 @@ use mathlib.Core.Bool.{Bool, true, false, cond, _&&_}
 use mathlib.Core.List.{List, [], _∷_, _++_}
 use lib.Dec.{T, eqb}
 use lib.ListN.{length}
-use Rattle.files.specs.Bytes.{num2}
-use Rattle.files.specs.Answers.{Answer, refused, said, wrote, condense, check, askRegister, askSummary, list}
+use Rattle.meaning.specs.Bytes.{num2}
+use Rattle.meaning.specs.Answers.{Answer, refused, said, wrote, condense, check, askRegister, askSummary, list}
 
 -- ---- registers
 
@@ -195,7 +195,7 @@ passes (c ∷ cs) = equal (c .got) (c .want) && passes cs
 
 -- to unfold this is to unfold every definition that the table computes with
 open-all : ℕ
-unfolding passes table same equal entry literal out incoming truth A S1 chain three pair empty counts asked row bytes Rattle.meaning.specs.Count.sum Rattle.meaning.specs.Count.all Rattle.meaning.specs.Count.those Rattle.meaning.specs.Count.seek Rattle.meaning.specs.Count.tab Rattle.meaning.specs.Count.join Rattle.meaning.specs.Count.total Rattle.meaning.specs.Count.any Rattle.meaning.specs.Count.each Rattle.meaning.specs.Count.ascends Rattle.meaning.specs.Register.marksOf Rattle.meaning.specs.Register.sameWay Rattle.meaning.specs.Register.near Rattle.meaning.specs.Register.far Rattle.meaning.specs.Register.leads Rattle.meaning.specs.Register.neighbours Rattle.meaning.specs.Level.sameCount Rattle.meaning.specs.Level.sameAround Rattle.meaning.specs.Level.alike Rattle.meaning.specs.Level.first Rattle.meaning.specs.Level.lowest Rattle.meaning.specs.Level.number Rattle.meaning.specs.Level.classList Rattle.meaning.specs.Level.classCount Rattle.meaning.specs.Level.lowestItem Rattle.meaning.specs.Question.bit Rattle.meaning.specs.Question.shows Rattle.meaning.specs.Question.holds Rattle.meaning.specs.Question.depth Rattle.meaning.specs.Question.threshold Rattle.meaning.specs.Reading.push Rattle.meaning.specs.Reading.andPush Rattle.meaning.specs.Reading.stack Rattle.meaning.specs.Reading.only Rattle.meaning.specs.Reading.tree Rattle.meaning.specs.Summary.classOf Rattle.meaning.specs.Summary.classAt Rattle.meaning.specs.Summary.groupAt Rattle.meaning.specs.Summary.lowestClass Rattle.meaning.specs.Summary.rowFor Rattle.meaning.specs.Summary.counted Rattle.meaning.specs.Summary.stated Rattle.meaning.specs.Summary.joins Rattle.meaning.specs.Summary.holdsAt Rattle.meaning.specs.Summary.list Rattle.meaning.specs.Condense.rowUnless Rattle.meaning.specs.Condense.rowsThat Rattle.meaning.specs.Condense.classFor Rattle.meaning.specs.Condense.linksFrom Rattle.meaning.specs.Condense.summaryBy Rattle.meaning.specs.Condense.summaryOf Rattle.meaning.specs.WellFormed.within Rattle.meaning.specs.WellFormed.linkKey Rattle.meaning.specs.WellFormed.way Rattle.meaning.specs.WellFormed.rowKey Rattle.meaning.specs.WellFormed.linkIn Rattle.meaning.specs.WellFormed.inRange Rattle.meaning.specs.WellFormed.classIn Rattle.meaning.specs.WellFormed.rowIn Rattle.meaning.specs.WellFormed.hasRow Rattle.meaning.specs.WellFormed.hasLink Rattle.meaning.specs.WellFormed.rowsMatch Rattle.meaning.specs.WellFormed.sizes Rattle.meaning.specs.WellFormed.numbers Rattle.meaning.specs.WellFormed.order Rattle.meaning.specs.WellFormed.groupsUsed Rattle.meaning.specs.WellFormed.wellFormed Rattle.meaning.specs.Check.rowRight Rattle.meaning.specs.Check.imageStands Rattle.meaning.specs.Check.isImage Rattle.meaning.specs.Check.fits Rattle.files.specs.Bytes.num2 Rattle.files.specs.Bytes.num4 Rattle.files.specs.Bytes.put2 Rattle.files.specs.Bytes.put4 Rattle.files.specs.Bytes.pack Rattle.files.specs.RegisterFile.linkAt Rattle.files.specs.RegisterFile.putLink Rattle.files.specs.RegisterFile.registerIn Rattle.files.specs.RegisterFile.headed Rattle.files.specs.RegisterFile.linksFine Rattle.files.specs.RegisterFile.fault Rattle.files.specs.SummaryFile.classIs Rattle.files.specs.SummaryFile.putClass Rattle.files.specs.SummaryFile.wayFrom Rattle.files.specs.SummaryFile.labelFrom Rattle.files.specs.SummaryFile.rowIs Rattle.files.specs.SummaryFile.putRow Rattle.files.specs.SummaryFile.summaryIn Rattle.files.specs.SummaryFile.summaryHead Rattle.files.specs.SummaryFile.summaryBytes Rattle.files.specs.SummaryFile.exact Rattle.files.specs.SummaryFile.wellFormedFile Rattle.files.specs.QuestionFile.signed Rattle.files.specs.QuestionFile.when Rattle.files.specs.QuestionFile.kind Rattle.files.specs.QuestionFile.andKind Rattle.files.specs.QuestionFile.kinds Rattle.files.specs.QuestionFile.treeOf Rattle.files.specs.QuestionFile.question Rattle.files.specs.Answers.unless Rattle.files.specs.Answers.into Rattle.files.specs.Answers.condense Rattle.files.specs.Answers.check Rattle.files.specs.Answers.askTree Rattle.files.specs.Answers.askRegister Rattle.files.specs.Answers.beyond Rattle.files.specs.Answers.askIn Rattle.files.specs.Answers.askSummary Rattle.files.specs.Answers.listIn Rattle.files.specs.Answers.list
+unfolding passes table same equal entry literal out incoming truth A S1 chain three pair empty counts asked row bytes Rattle.meaning.specs.Count.sum Rattle.meaning.specs.Count.all Rattle.meaning.specs.Count.those Rattle.meaning.specs.Count.seek Rattle.meaning.specs.Count.tab Rattle.meaning.specs.Count.join Rattle.meaning.specs.Count.total Rattle.meaning.specs.Count.any Rattle.meaning.specs.Count.each Rattle.meaning.specs.Count.ascends Rattle.meaning.specs.Register.marksOf Rattle.meaning.specs.Register.sameWay Rattle.meaning.specs.Register.near Rattle.meaning.specs.Register.far Rattle.meaning.specs.Register.leads Rattle.meaning.specs.Register.neighbours Rattle.meaning.specs.Level.sameCount Rattle.meaning.specs.Level.sameAround Rattle.meaning.specs.Level.alike Rattle.meaning.specs.Level.first Rattle.meaning.specs.Level.lowest Rattle.meaning.specs.Level.number Rattle.meaning.specs.Level.classList Rattle.meaning.specs.Level.classCount Rattle.meaning.specs.Level.lowestItem Rattle.meaning.specs.Question.bit Rattle.meaning.specs.Question.shows Rattle.meaning.specs.Question.holds Rattle.meaning.specs.Question.depth Rattle.meaning.specs.Question.threshold Rattle.meaning.specs.Reading.push Rattle.meaning.specs.Reading.andPush Rattle.meaning.specs.Reading.stack Rattle.meaning.specs.Reading.only Rattle.meaning.specs.Reading.tree Rattle.meaning.specs.Summary.classOf Rattle.meaning.specs.Summary.classAt Rattle.meaning.specs.Summary.groupAt Rattle.meaning.specs.Summary.lowestClass Rattle.meaning.specs.Summary.rowFor Rattle.meaning.specs.Summary.counted Rattle.meaning.specs.Summary.stated Rattle.meaning.specs.Summary.joins Rattle.meaning.specs.Summary.holdsAt Rattle.meaning.specs.Summary.list Rattle.meaning.specs.Condense.rowUnless Rattle.meaning.specs.Condense.rowsThat Rattle.meaning.specs.Condense.classFor Rattle.meaning.specs.Condense.linksFrom Rattle.meaning.specs.Condense.summaryBy Rattle.meaning.specs.Condense.summaryOf Rattle.meaning.specs.WellFormed.within Rattle.meaning.specs.WellFormed.linkKey Rattle.meaning.specs.WellFormed.way Rattle.meaning.specs.WellFormed.rowKey Rattle.meaning.specs.WellFormed.linkIn Rattle.meaning.specs.WellFormed.inRange Rattle.meaning.specs.WellFormed.classIn Rattle.meaning.specs.WellFormed.rowIn Rattle.meaning.specs.WellFormed.hasRow Rattle.meaning.specs.WellFormed.hasLink Rattle.meaning.specs.WellFormed.rowsMatch Rattle.meaning.specs.WellFormed.sizes Rattle.meaning.specs.WellFormed.numbers Rattle.meaning.specs.WellFormed.order Rattle.meaning.specs.WellFormed.groupsUsed Rattle.meaning.specs.WellFormed.wellFormed Rattle.meaning.specs.Check.rowRight Rattle.meaning.specs.Check.imageStands Rattle.meaning.specs.Check.isImage Rattle.meaning.specs.Check.fits Rattle.meaning.specs.Bytes.num2 Rattle.meaning.specs.Bytes.num4 Rattle.meaning.specs.Bytes.put2 Rattle.meaning.specs.Bytes.put4 Rattle.meaning.specs.Bytes.pack Rattle.meaning.specs.RegisterFile.linkAt Rattle.meaning.specs.RegisterFile.putLink Rattle.meaning.specs.RegisterFile.registerIn Rattle.meaning.specs.RegisterFile.headed Rattle.meaning.specs.RegisterFile.linksFine Rattle.meaning.specs.RegisterFile.fault Rattle.meaning.specs.SummaryFile.classIs Rattle.meaning.specs.SummaryFile.putClass Rattle.meaning.specs.SummaryFile.wayFrom Rattle.meaning.specs.SummaryFile.labelFrom Rattle.meaning.specs.SummaryFile.rowIs Rattle.meaning.specs.SummaryFile.putRow Rattle.meaning.specs.SummaryFile.summaryIn Rattle.meaning.specs.SummaryFile.summaryHead Rattle.meaning.specs.SummaryFile.summaryBytes Rattle.meaning.specs.SummaryFile.exact Rattle.meaning.specs.SummaryFile.wellFormedFile Rattle.meaning.specs.QuestionFile.signed Rattle.meaning.specs.QuestionFile.when Rattle.meaning.specs.QuestionFile.kind Rattle.meaning.specs.QuestionFile.andKind Rattle.meaning.specs.QuestionFile.kinds Rattle.meaning.specs.QuestionFile.treeOf Rattle.meaning.specs.QuestionFile.question Rattle.meaning.specs.Answers.unless Rattle.meaning.specs.Answers.into Rattle.meaning.specs.Answers.condense Rattle.meaning.specs.Answers.check Rattle.meaning.specs.Answers.askTree Rattle.meaning.specs.Answers.askRegister Rattle.meaning.specs.Answers.beyond Rattle.meaning.specs.Answers.askIn Rattle.meaning.specs.Answers.askSummary Rattle.meaning.specs.Answers.listIn Rattle.meaning.specs.Answers.list
 open-all = 0
 
 -- every case of the table is answered as document 01 says
