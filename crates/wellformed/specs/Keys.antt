@@ -1,6 +1,6 @@
 -- The keys by which rows and class links are held against one another: "a row stands for a class, direction, label and group exactly when
 -- a class link joins that class to some class of the group that way". Leans on meaning's WellFormed.
-use Prim.Native.Nat.{ℕ, _+_, _*_, _≤_, _<_}
+use Prim.Native.Nat.{ℕ, zero, suc, _+_, _*_, _≤_, _<_, max}
 use mathlib.Core.Path.{_≡_}
 use mathlib.Core.Bool.{Bool, true}
 use mathlib.Core.List.{List, _++_}
@@ -26,6 +26,11 @@ askedKey S d j = let a = getD (S .links) j noLink in keyFor (near d a) d (a .lab
 
 unfoldable pub askedKeys : Summary → List ℕ
 askedKeys S = tab (askedKey S Outgoing) (length (S .links)) ++ tab (askedKey S Incoming) (length (S .links))
+
+-- the greatest of f 0, f 1, .. f (n - 1), or 0
+unfoldable pub most : (ℕ → ℕ) → ℕ → ℕ
+most f zero = 0
+most f (suc n) = max (most f n) (f n)
 
 -- a file whose offsets and length are exact and whose sizes and caps are within their limits
 pub record Sized (s : List ℕ) : Type 0 where

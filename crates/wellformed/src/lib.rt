@@ -2,7 +2,6 @@
 // rows that it asks for by search. Leans on reader for the file's numbers, on links for the order of links and on seek for the search.
 use meaning::Direction;
 use names::Class;
-use names::Item;
 ghost use mathlib.Core.Path.{_≡_};
 ghost use mathlib.Core.Bool.{true, _&&_};
 ghost use Prim.Native.Nat.{_+_, _*_, _≤_, _<_};
@@ -11,11 +10,12 @@ ghost use lib.ListN.{length};
 ghost use Rattle.meaning.specs.Count.{each, ascends};
 ghost use Rattle.meaning.specs.Summary.{classOf, rowOf};
 ghost use Rattle.meaning.specs.WellFormed.{inRange, classIn, rowIn, linkIn, linkKey, rowKey, sizes, numbers, groupsUsed, rowsMatch, wellFormed};
+ghost use Rattle.meaning.specs.Bytes.{num2};
 ghost use Rattle.meaning.specs.SummaryFile as file;
 ghost use Rattle.meaning.specs.SummaryFile.{summaryIn, wellFormedFile};
 ghost use Rattle.reader.specs.Sized.{HasClass};
 ghost use Rattle.lists.specs.Writes.{Writes};
-ghost use Rattle.wellformed.specs.Keys.{askedKey, Sized, Keyed};
+ghost use Rattle.wellformed.specs.Keys.{askedKey, most, Sized, Keyed};
 
 // "A summary is well formed when ..". If it is, the keys of its rows are left in `keys` for who reads on.
 pub fn judge(s: &[u8], keys: &mut [u64]) -> bool
@@ -183,21 +183,35 @@ fn links_fine(s: &[u8]) -> bool
     )
 }
 
-// The map's numbers are classes.
+// The map's numbers are classes: the greatest of them is.
 fn map_fine(s: &[u8]) -> bool
     requires { ⌜ Sized (now s) ⌝ }
     ensures { λ r. ⌜ r ≡ each (λ k. ltb k (length (summaryIn (now (s .entry)) .classes))) (summaryIn (now (s .entry)) .map) ⌝ }
 {
     let c = reader::classes(s);
     let n = reader::items(s);
-    let mut x = 0;
-    while x < n {
-        if c <= reader::class_of(s, Item(x as u16)).index() {
-            return false;
-        }
-        x += 1;
+    if n == 0 {
+        return true;
     }
-    true
+    let top = greatest(s, wire::two(s, 22) as usize, n);
+    (top as usize) < c
+}
+
+// The greatest of n numbers that stand one after another from a place on.
+fn greatest(s: &[u8], at: usize, n: usize) -> u16
+    requires { ⌜ at + 2 * n ≤ length (now s) ⌝ }
+    ensures { λ r. ⌜ r ≡ most (λ i. num2 (now (s .entry)) (at + 2 * i)) n ⌝ }
+{
+    let mut top: u16 = 0;
+    let mut i = 0;
+    while i < n {
+        let v = wire::two(s, at + 2 * i);
+        if top < v {
+            top = v;
+        }
+        i += 1;
+    }
+    top
 }
 
 // "a row stands for a class, direction, label and group exactly when a class link joins that class to some class of the group that way".
@@ -205,16 +219,29 @@ fn rows_match(s: &[u8], keys: &[u64]) -> bool
     requires { ⌜ Sized (now s) × (numbers (summaryIn (now s)) ≡ true) × (ascends rowKey (summaryIn (now s) .rows) ≡ true) × Keyed true (summaryIn (now s)) (now keys) × (summaryIn (now s) .groups ≤ 1024) × (length (now keys) ≡ 4096) ⌝ }
     ensures { λ r. ⌜ r ≡ rowsMatch (summaryIn (now (s .entry))) ⌝ }
 {
+    if reader::links(s) <= 64 {
+        let mut few = [0u64; 128];
+        return matched(s, keys, &mut few);
+    }
     let mut asked = [0u64; 4096];
+    matched(s, keys, &mut asked)
+}
+
+// The same, with room lent for the keys that are asked for: where they are few, little has to be cleared.
+fn matched(s: &[u8], keys: &[u64], asked: &mut [u64]) -> bool
+    requires { ⌜ Sized (now s) × (numbers (summaryIn (now s)) ≡ true) × (ascends rowKey (summaryIn (now s) .rows) ≡ true) × Keyed true (summaryIn (now s)) (now keys) × (summaryIn (now s) .groups ≤ 1024) × (length (now keys) ≡ 4096)
+        × (2 * length (summaryIn (now s) .links) ≤ length (now asked)) × (length (now asked) ≤ 4096) ⌝ }
+    ensures { λ r. ⌜ r ≡ rowsMatch (summaryIn (now (s .entry))) ⌝ }
+{
     let e = reader::links(s);
-    put_asked(s, Direction::Outgoing, &mut asked, 0);
-    put_asked(s, Direction::Incoming, &mut asked, e);
-    seek::same_members(keys, reader::rows(s), &asked, 2 * e)
+    put_asked(s, Direction::Outgoing, asked, 0);
+    put_asked(s, Direction::Incoming, asked, e);
+    seek::same_members(keys, reader::rows(s), asked, 2 * e)
 }
 
 // The keys of the rows that the class links ask for, seen that way, from a place on.
 fn put_asked(s: &[u8], way: Direction, asked: &mut [u64], at: usize)
-    requires { ⌜ Sized (now s) × (numbers (summaryIn (now s)) ≡ true) × (at + length (summaryIn (now s) .links) ≤ length (now asked)) × (length (now asked) ≡ 4096) ⌝ }
+    requires { ⌜ Sized (now s) × (numbers (summaryIn (now s)) ≡ true) × (at + length (summaryIn (now s) .links) ≤ length (now asked)) × (length (now asked) ≤ 4096) ⌝ }
     ensures { λ _. ⌜ Writes (now (asked .entry)) (now (asked .exit)) at (length (summaryIn (now (s .entry)) .links)) (askedKey (summaryIn (now (s .entry))) way) ⌝ }
 {
     let e = reader::links(s);
