@@ -51,10 +51,22 @@ pub fn set_four(b: &mut [u8], len: usize, at: usize, v: u64) {
     }
 }
 
-pub fn set_link(b: &mut [u8], len: usize, at: usize, source: u64, label: u64, target: u64) {
-    if at < 65536 {
-        set_two(b, len, at, source);
-        set_two(b, len, at + 2, label);
-        set_two(b, len, at + 4, target);
+// A number of two bytes, and the place behind it. Nothing where a file cannot reach.
+pub fn set_next(b: &mut [u8], len: usize, at: usize, v: u64) -> usize {
+    if 65536 <= at {
+        return at;
     }
+    set_two(b, len, at, v);
+    at + 2
+}
+
+// Numbers of two bytes, one behind the other, and the place behind them.
+pub fn set_all(b: &mut [u8], len: usize, at: usize, numbers: &[u64]) -> usize {
+    let mut now = at;
+    let mut k = 0;
+    while k < numbers.len() {
+        now = set_next(b, len, now, numbers[k]);
+        k += 1;
+    }
+    now
 }

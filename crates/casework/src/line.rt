@@ -12,6 +12,17 @@ impl Line {
         }
     }
 
+    // A family's word, and a case's numbers.
+    pub fn of(family: &[u8], numbers: &[u64]) -> Line {
+        let mut line = Line::new().word(family);
+        let mut k = 0;
+        while k < numbers.len() {
+            line = line.number(numbers[k]);
+            k += 1;
+        }
+        line
+    }
+
     // One letter more, with no blank before it.
     pub fn byte(self, b: u8) -> Line {
         let at = self.len;
