@@ -39,7 +39,7 @@ use Rattle.question.specs.Read.{Parsed, Spans}
 use Rattle.question.proofs.Laws.{reads-first, forward, parsed-true, parsed-literal, parsed-not, parsed-and, parsed-or, parsed-least, parsed-one}
 use Rattle.question.proofs.Steps.{Two}
 use Rattle.memo.specs.Kept.{turned, any, decides, tell, slot}
-use Rattle.memo.proofs.Laws.{recalled-so, remembers-kept}
+use Rattle.memo.proofs.Laws.{joins, decided, undecided, operands, recalled-so, remembers-kept}
 use Rattle.wellformed.proofs.Laws.{well-file, sized-file, groups-file}
 use Rattle.wellformed.proofs.Match.{row-at}
 use Rattle.consult.specs.declared.Counted.{Counted}
@@ -48,47 +48,19 @@ use Rattle.consult.specs.Consulted.{Consulted, Own, adds, Holds, Counts,
 use Rattle.consult.proofs.Lowest.{lowest-below}
 use Rattle.consult.proofs.Window.{counted-own}
 
--- ---- two operands
+-- ---- whether an entry holds, by its kind
 
--- what an entry of two operands says of them
-abbrev joins : Bool → Bool → Bool → Bool
-joins any x y = cond any (x || y) (x && y)
-
-decided : (any x y : Bool) → cond any x (not x) ≡ true → joins any x y ≡ x
-decided true true y h = refl
-decided true false y h = absurd (let z : _≡_ {A = ℕ} 0 1 = cc in omega arith)
-decided false true y h = absurd (let z : _≡_ {A = ℕ} 0 1 = cc in omega arith)
-decided false false y h = refl
-
-undecided : (any x y : Bool) → cond any x (not x) ≡ false → joins any x y ≡ y
-undecided true true y h = absurd (let z : _≡_ {A = ℕ} 0 1 = cc in omega arith)
-undecided true false y h = refl
-undecided false true y h = refl
-undecided false false y h = absurd (let z : _≡_ {A = ℕ} 0 1 = cc in omega arith)
-
--- the first stands at the next entry, the second where the first ends
-operands : (q : List ℕ) (i : ℕ) (S : Summary) (c : ℕ) (kind : Kind) → Two kind → entryAt q i ≡ some kind → (t : Question) (k : ℕ) → Parsed q i t k →
+-- "and, or, two operands"
+operands-here : (q : List ℕ) (i : ℕ) (S : Summary) (c : ℕ) (kind : Kind) → Two kind → entryAt q i ≡ some kind → (t : Question) (k : ℕ) → Parsed q i t k →
     (p : Question) × (r : Question) × (m : ℕ) × (holdsAt S t c ≡ joins (any kind) (holdsAt S p c) (holdsAt S r c)) × Parsed q (i + 1) p m × Parsed q m r k
 unfolding holdsAt
-operands q i S c kind (inl h) e t k p =
-    let o = parsed-and p (e ∙ ap some h) in
-    (o .0, o .1, o .2, ap (λ (u : Question). holdsAt S u c) (o .3) ∙ ap (λ (b : Bool). joins b (holdsAt S (o .0) c) (holdsAt S (o .1) c)) (sym (ap any h)), o .4, o .5)
-operands q i S c kind (inr h) e t k p =
-    let o = parsed-or p (e ∙ ap some h) in
-    (o .0, o .1, o .2, ap (λ (u : Question). holdsAt S u c) (o .3) ∙ ap (λ (b : Bool). joins b (holdsAt S (o .0) c) (holdsAt S (o .1) c)) (sym (ap any h)), o .4, o .5)
-
--- ---- whether an entry holds, by its kind
+operands-here q i S c = operands (λ t. holdsAt S t c) (λ t u. refl) (λ t u. refl) q i
 
 pub not-refused : (a : Asked) (b : Bool) (r : Refusal) → a ≡ Said b → a ≡ NotSaid r → ⊥
 not-refused a b r e f = let z : _≡_ {A = ℕ} 0 1 = cc in omega arith
 
 said-one : (a : Asked) (b d : Bool) → a ≡ Said b → a ≡ Said d → b ≡ d
 said-one a b d e f = cc
-
--- the entry after a tree is further on
-pub spans-on : (q : List ℕ) (i : ℕ) (s : Spanned) → Spans q i s → (d m j : ℕ) → s ≡ Tree d m j → i < j
-unfolding Spans
-spans-on q i s spans d m j e = let one : Spans q i (Tree d m j) = rw e at spans in forward (one .1)
 
 module _ (q : List ℕ) (i : ℕ) (S : Summary) (c : ℕ) where
   pub holds-none : (s : Reading) (r : Asked) → kindOf s ≡ entryAt q i → s ≡ Malformed → Holds q i S c r
@@ -110,7 +82,7 @@ module _ (q : List ℕ) (i : ℕ) (S : Summary) (c : ℕ) where
     -- the first operand decides
     pub holds-first : decides kind a ≡ true → Holds q i S c a
     holds-first h t k p =
-        let o = operands q i S c kind two e t k p in
+        let o = operands-here q i S c kind two e t k p in
         let says = first (o .0) (o .2) (o .4) in
         says ∙ ap (λ (b : Bool). Said b) (sym (o .3 ∙ decided (any kind) (holdsAt S (o .0) c) (holdsAt S (o .1) c) (sym (ap (decides kind) says) ∙ h)))
 
@@ -119,7 +91,7 @@ module _ (q : List ℕ) (i : ℕ) (S : Summary) (c : ℕ) where
       pub holds-second : (d m j : ℕ) (r : Asked) → decides kind a ≡ false → s ≡ Tree d m j → Holds q j S c r → Holds q i S c r
       unfolding Spans
       holds-second d m j r h f g t k p =
-          let o = operands q i S c kind two e t k p in
+          let o = operands-here q i S c kind two e t k p in
           let says = first (o .0) (o .2) (o .4) in
           let one : Spans q (i + 1) (Tree d m j) = rw f at spans in
           g (o .1) k (subst (λ (x : ℕ). Parsed q x (o .1) k) (parsed-one (o .4) (one .1) .1) (o .5))
@@ -128,7 +100,7 @@ module _ (q : List ℕ) (i : ℕ) (S : Summary) (c : ℕ) where
       pub holds-unspanned : (r : Refusal) (b : Asked) → s ≡ Refused r → Holds q i S c b
       unfolding Spans
       holds-unspanned r b f t k p =
-          let o = operands q i S c kind two e t k p in
+          let o = operands-here q i S c kind two e t k p in
           let none : Spans q (i + 1) (Refused r) = rw f at spans in
           absurd (none .1 (o .0) (o .2) (o .4))
 

@@ -29,6 +29,7 @@ use Rattle.question.proofs.Steps.{Two}
 use Rattle.question.specs.declared.Asked.{Asked}
 use Rattle.question.specs.declared.Asked.the-variants.{Said, Refused}
 use Rattle.memo.specs.Kept.{Tells, turned, any, decides}
+use Rattle.memo.proofs.Laws.{joins, decided, undecided, operands}
 use Rattle.register.specs.Told.{OfRegister}
 use Rattle.register.proofs.Laws.{limits}
 use Rattle.nearby.specs.Nearby.{Last, Outs, Ins}
@@ -47,40 +48,13 @@ module _ (q : List ℕ) (i : ℕ) (so : Question → Bool) where
   pub tells-refused : (r : Refusal) → Tells q i so (Refused r)
   tells-refused r t k p b e = absurd (let z : _≡_ {A = ℕ} 0 1 = cc in omega arith)
 
--- ---- two operands
+-- ---- whether an entry holds, by its kind
 
-abbrev joins : Bool → Bool → Bool → Bool
-joins any x y = cond any (x || y) (x && y)
-
-decided : (any x y : Bool) → cond any x (not x) ≡ true → joins any x y ≡ x
-decided true true y h = refl
-decided true false y h = absurd (let z : _≡_ {A = ℕ} 0 1 = cc in omega arith)
-decided false true y h = absurd (let z : _≡_ {A = ℕ} 0 1 = cc in omega arith)
-decided false false y h = refl
-
-undecided : (any x y : Bool) → cond any x (not x) ≡ false → joins any x y ≡ y
-undecided true true y h = absurd (let z : _≡_ {A = ℕ} 0 1 = cc in omega arith)
-undecided true false y h = refl
-undecided false true y h = refl
-undecided false false y h = absurd (let z : _≡_ {A = ℕ} 0 1 = cc in omega arith)
-
--- the first stands at the next entry, the second where the first ends
-operands : (q : List ℕ) (i : ℕ) (R : Register) (x : ℕ) (kind : Kind) → Two kind → entryAt q i ≡ some kind → (t : Question) (k : ℕ) → Parsed q i t k →
+-- "and, or, two operands"
+operands-here : (q : List ℕ) (i : ℕ) (R : Register) (x : ℕ) (kind : Kind) → Two kind → entryAt q i ≡ some kind → (t : Question) (k : ℕ) → Parsed q i t k →
     (p : Question) × (r : Question) × (m : ℕ) × (holds R t x ≡ joins (any kind) (holds R p x) (holds R r x)) × Parsed q (i + 1) p m × Parsed q m r k
 unfolding holds
-operands q i R x kind (inl h) e t k p =
-    let o = parsed-and p (e ∙ ap some h) in
-    (o .0, o .1, o .2, ap (λ (u : Question). holds R u x) (o .3) ∙ ap (λ (b : Bool). joins b (holds R (o .0) x) (holds R (o .1) x)) (sym (ap any h)), o .4, o .5)
-operands q i R x kind (inr h) e t k p =
-    let o = parsed-or p (e ∙ ap some h) in
-    (o .0, o .1, o .2, ap (λ (u : Question). holds R u x) (o .3) ∙ ap (λ (b : Bool). joins b (holds R (o .0) x) (holds R (o .1) x)) (sym (ap any h)), o .4, o .5)
-
--- the entry after a tree is further on
-pub spans-on : (q : List ℕ) (i : ℕ) (s : Spanned) → Spans q i s → (d m j : ℕ) → s ≡ Tree d m j → i < j
-unfolding Spans
-spans-on q i s spans d m j e = let one : Spans q i (Tree d m j) = rw e at spans in forward (one .1)
-
--- ---- whether an entry holds, by its kind
+operands-here q i R x = operands (λ t. holds R t x) (λ t u. refl) (λ t u. refl) q i
 
 module _ (q : List ℕ) (i : ℕ) (R : Register) (x : ℕ) where
   abbrev here : Question → Bool
@@ -105,7 +79,7 @@ module _ (q : List ℕ) (i : ℕ) (R : Register) (x : ℕ) where
     tells-first (Said d) first h =
         tells-said q i here d
         (λ t k p.
-        let o = operands q i R x kind two e t k p in
+        let o = operands-here q i R x kind two e t k p in
         let says = first (o .0) (o .2) (o .4) d refl in
         says ∙ sym (o .3 ∙ decided (any kind) (holds R (o .0) x) (holds R (o .1) x) (subst (λ (b : Bool). cond (any kind) b (not b) ≡ true) says h)))
     tells-first (Refused r) first h = tells-refused q i here r
@@ -115,7 +89,7 @@ module _ (q : List ℕ) (i : ℕ) (R : Register) (x : ℕ) where
         Tells q j here r → Tells q i here r
     unfolding Spans
     tells-second (Said c) first h s spans d m j r f g t k p b z =
-        let o = operands q i R x kind two e t k p in
+        let o = operands-here q i R x kind two e t k p in
         let says = first (o .0) (o .2) (o .4) c refl in
         let one : Spans q (i + 1) (Tree d m j) = rw f at spans in
         g (o .1) k (subst (λ (y : ℕ). Parsed q y (o .1) k) (parsed-one (o .4) (one .1) .1) (o .5)) b z
@@ -193,16 +167,7 @@ module _ (q : List ℕ) (i : ℕ) (R : Register) (d : Direction) (l k a y : ℕ)
 
 -- ---- the lists of places
 
-pub zeros : (n i : ℕ) → _≡_ {A = ℕ} (getD (replicate n 0) i 0) 0
-zeros n i = by-bool (ltb i n) (λ e. getD-replicate {A = ℕ} n i 0 0 (ltb-true i n e)) (λ e. List·getD-eq-default (replicate n 0) 0 (omega (arith, ltb-false i n e, length-replicate {A = ℕ} n 0)))
-
 module _ (R : Register) where
-  pub no-outs : Outs R (replicate 1 0)
-  no-outs = record { are = λ e x h. absurd (omega (arith, e, length-replicate {A = ℕ} 1 0)) }
-
-  pub no-ins : Ins R (replicate 1 0)
-  no-ins = record { heads = λ e x h. absurd (omega (arith, e, length-replicate {A = ℕ} 1 0)); nexts = λ e x h. absurd (omega (arith, e, length-replicate {A = ℕ} 1 0)) }
-
   -- all of it is passed on, or so little that it says nothing
   pub outs-part : (outs : List ℕ) (r : ℕ) → r ≤ 1024 → length outs ≡ 1024 → (r ≡ 1024 → Outs R outs) → Outs R (take (r - 0) (drop 0 outs))
   unfolding drop

@@ -22,9 +22,9 @@ pub record Around (reg : List ℕ) (n m : ℕ) (outs ins : List ℕ) : Type 0 wh
   pub outs-are : Outs (registerIn reg) outs
   pub ins-are : Ins (registerIn reg) ins
 
--- every number of the list is k
-abbrev pub Kept : ℕ → List ℕ → Type 0
-Kept k s = (i : ℕ) → getD s i 0 ≡ k
+-- nothing but zeros
+abbrev pub Cleared : List ℕ → Type 0
+Cleared s = (i : ℕ) → getD s i 0 ≡ 0
 
 -- "at least t .. neighbours by label .. satisfy the operand", at item x
 abbrev pub reaching : Register → Direction → ℕ → ℕ → ℕ → Question → Bool

@@ -16,7 +16,7 @@ ghost use Rattle.meaning.specs.RegisterFile.{registerIn};
 ghost use Rattle.register.specs.Told.{OfRegister};
 ghost use Rattle.memo.specs.Kept.{Tells, Remembers};
 ghost use Rattle.nearby.specs.Nearby.{Outs, Ins};
-ghost use Rattle.descent.specs.Around.{Around, reaching, leading, unsaid, Kept};
+ghost use Rattle.descent.specs.Around.{Around, reaching, leading, unsaid, Cleared};
 
 // So many operands are asked one by one; a question that needs more is better asked at all items at once.
 const MOST_STEPS: u16 = 4096;
@@ -56,7 +56,7 @@ fn ask_deep(reg: &[u8], n: usize, m: usize, q: &[u8], outs: &[u16], ins: &[u16],
 
 // Where each item's outgoing links end, made where a question is so long that it pays; how much of it was made.
 fn put_outs(reg: &[u8], n: usize, m: usize, q: &[u8], outs: &mut [u16]) -> usize
-    requires { ⌜ OfRegister (now reg) n m × (length (now outs) ≡ 1024) × Kept 0 (now outs) ⌝ }
+    requires { ⌜ OfRegister (now reg) n m × (length (now outs) ≡ 1024) × Cleared (now outs) ⌝ }
     ensures { λ r. ⌜ (r ≤ 1024) × (length (now (outs .exit)) ≡ 1024) × (r ≡ 1024 → Outs (registerIn (now (reg .entry))) (now (outs .exit))) ⌝ }
 {
     if q.len() <= 64 {
@@ -68,7 +68,7 @@ fn put_outs(reg: &[u8], n: usize, m: usize, q: &[u8], outs: &mut [u16]) -> usize
 
 // The incoming links of each item, made where the question asks for incoming neighbours; how much of it was made.
 fn put_ins(reg: &[u8], n: usize, m: usize, q: &[u8], ins: &mut [u16]) -> usize
-    requires { ⌜ OfRegister (now reg) n m × (length (now ins) ≡ 3072) × Kept 0 (now ins) ⌝ }
+    requires { ⌜ OfRegister (now reg) n m × (length (now ins) ≡ 3072) × Cleared (now ins) ⌝ }
     ensures { λ r. ⌜ (r ≤ 3072) × (length (now (ins .exit)) ≡ 3072) × (r ≡ 3072 → Ins (registerIn (now (reg .entry))) (now (ins .exit))) ⌝ }
 {
     if !asks_incoming(q) {

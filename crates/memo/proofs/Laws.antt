@@ -1,6 +1,7 @@
--- Nothing is known at first; what is kept is the answer; and an answer may be kept. Over any truth of a tree at a place.
+-- An entry of two operands and what decides it; and what is kept: nothing is known at first, what is kept is the answer, an answer may be
+-- kept. Over any truth of a tree.
 use mathlib.Core.Path.{_≡_, refl, sym, ap, subst, _∙_}
-use mathlib.Core.Bool.{Bool, true, false, cond}
+use mathlib.Core.Bool.{Bool, true, false, not, cond, _&&_, _||_}
 use mathlib.Core.Logic.{_⊎_, inl, inr, ⊎-elim}
 use mathlib.Core.List.{List, [], _∷_}
 use types.Run.{OneOf}
@@ -8,15 +9,21 @@ use denote.Enum.Declared.{tagOf}
 use Rattle.meaning.specs.declared.Kind.{Kind}
 use Rattle.meaning.specs.declared.Kind.the-variants.{True, Literal, Not, And, Or, AtLeast}
 use Rattle.meaning.proofs.Kind.{the-type}
+use mathlib.Core.Option.{some}
 use Prim.Native.Nat.{ℕ, _+_, _*_, _≤_, _<_}
 use native.Mathlib.Omega.{arith}
 use borrow.Author.Tests.{ltb-true, ltb-false, lt-ltb, le-ltb}
 use lib.Dec.{ltb, eqb}
 use lib.ListN.{length, getD, set, replicate, length-set, length-replicate, getD-replicate, List·getD-eq-default}
 use lib.Seq.{getD-set-same, getD-set-other, set-out}
-use Rattle.meaning.specs.Question.{Question}
+use Rattle.meaning.specs.Question.{Question, both, either}
 use Rattle.theory.proofs.CountLaws.{by-bool, by-eq}
-use Rattle.question.specs.Read.{Parsed}
+use Rattle.entry.specs.Entries.{entryAt}
+use Rattle.question.specs.declared.Spanned.{Spanned}
+use Rattle.question.specs.declared.Spanned.the-variants.{Tree}
+use Rattle.question.specs.Read.{Parsed, Spans}
+use Rattle.question.proofs.Laws.{forward, parsed-and, parsed-or}
+use Rattle.question.proofs.Steps.{Two}
 use Rattle.memo.specs.Kept.{any, tell, slot, Remembers}
 
 -- no other kind than "or" is content with one operand
@@ -27,6 +34,41 @@ not-any Not h = refl
 not-any And h = refl
 not-any (AtLeast d l n) h = refl
 not-any Or h = absurd (⊎-elim (λ e. omega arith) (⊎-elim (λ e. omega arith) (⊎-elim (λ e. omega arith) (⊎-elim (λ e. omega arith) (λ e. omega arith)))) h)
+
+-- ---- two operands
+
+-- what an entry of two operands says of them
+abbrev pub joins : Bool → Bool → Bool → Bool
+joins any x y = cond any (x || y) (x && y)
+
+-- where the first decides, and where it does not
+pub decided : (any x y : Bool) → cond any x (not x) ≡ true → joins any x y ≡ x
+decided true true y h = refl
+decided true false y h = absurd (let z : _≡_ {A = ℕ} 0 1 = cc in omega arith)
+decided false true y h = absurd (let z : _≡_ {A = ℕ} 0 1 = cc in omega arith)
+decided false false y h = refl
+
+pub undecided : (any x y : Bool) → cond any x (not x) ≡ false → joins any x y ≡ y
+undecided true true y h = absurd (let z : _≡_ {A = ℕ} 0 1 = cc in omega arith)
+undecided true false y h = refl
+undecided false true y h = refl
+undecided false false y h = absurd (let z : _≡_ {A = ℕ} 0 1 = cc in omega arith)
+
+-- the first operand stands at the next entry, the second where the first ends; said of any truth that "and" and "or" take apart
+module _ (so : Question → Bool) (so-and : (t u : Question) → so (both t u) ≡ so t && so u) (so-or : (t u : Question) → so (either t u) ≡ so t || so u) where
+  pub operands : (q : List ℕ) (i : ℕ) (kind : Kind) → Two kind → entryAt q i ≡ some kind → (t : Question) (k : ℕ) → Parsed q i t k →
+      (p : Question) × (r : Question) × (m : ℕ) × (so t ≡ joins (any kind) (so p) (so r)) × Parsed q (i + 1) p m × Parsed q m r k
+  operands q i kind (inl h) e t k p =
+      let o = parsed-and p (e ∙ ap some h) in
+      (o .0, o .1, o .2, ap so (o .3) ∙ so-and (o .0) (o .1) ∙ ap (λ (b : Bool). joins b (so (o .0)) (so (o .1))) (sym (ap any h)), o .4, o .5)
+  operands q i kind (inr h) e t k p =
+      let o = parsed-or p (e ∙ ap some h) in
+      (o .0, o .1, o .2, ap so (o .3) ∙ so-or (o .0) (o .1) ∙ ap (λ (b : Bool). joins b (so (o .0)) (so (o .1))) (sym (ap any h)), o .4, o .5)
+
+-- the entry after a tree is further on
+pub spans-on : (q : List ℕ) (i : ℕ) (s : Spanned) → Spans q i s → (d m j : ℕ) → s ≡ Tree d m j → i < j
+unfolding Spans
+spans-on q i s spans d m j e = let one : Spans q i (Tree d m j) = rw e at spans in forward (one .1)
 
 -- ---- what is kept
 

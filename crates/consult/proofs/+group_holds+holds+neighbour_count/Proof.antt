@@ -15,7 +15,8 @@ use Rattle.question.proofs.Steps.{Two, two-of}
 use Rattle.reader.specs.Sized.{HasRow}
 use Rattle.wellformed.proofs.Laws.{well-file, sized-file}
 use Rattle.consult.specs.Consulted.{Holds, Remembers}
-use Rattle.consult.proofs.Laws.{holds-none, holds-true, holds-literal, holds-not, holds-first, holds-second, holds-unspanned, spans-on, holds-least, Summed, summed-none, summed-all, counts-unasked, one-summed, sum-most, added-most, row-grouped, group-few, lowest-asked, not-refused, recalled-holds, holds-kept}
+use Rattle.consult.proofs.Laws.{holds-none, holds-true, holds-literal, holds-not, holds-first, holds-second, holds-unspanned, holds-least, Summed, summed-none, summed-all, counts-unasked, one-summed, sum-most, added-most, row-grouped, group-few, lowest-asked, not-refused, recalled-holds, holds-kept}
+use Rattle.memo.proofs.Laws.{spans-on}
 use borrow.Author.Needs.{needs}
 use borrow.Fn.Kinds.{In}
 use borrow.Fn.PlainCycle.{Measures, is, falls, and}

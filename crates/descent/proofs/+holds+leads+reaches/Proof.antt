@@ -9,13 +9,13 @@ use lib.ListN.{length, getD}
 use Rattle.meaning.specs.Question.{holds as holds-in}
 use Rattle.meaning.specs.declared.Kind.the-variants.{Literal}
 use Rattle.meaning.specs.RegisterFile.{registerIn}
-use Rattle.register.specs.Told.{OfLink}
+use Rattle.nearby.proofs.Laws.{has-link}
 use Rattle.entry.specs.Entries.{entryAt}
 use Rattle.entry.proofs.Laws.{is-entry, within-entry, literal-back, literal-read, least-read}
 use Rattle.question.proofs.Steps.{Two, two-of}
 use Rattle.memo.specs.Kept.{Remembers}
-use Rattle.memo.proofs.Laws.{recalled-so, remembers-kept}
-use Rattle.descent.proofs.Laws.{tells-refused, tells-true, tells-literal, tells-not, tells-first, tells-second, spans-on, tells-least, Met, met-none, met-one, met-enough, met-all, Own, own-link, cond-most, item-few, leads-other, leads-there}
+use Rattle.memo.proofs.Laws.{spans-on, recalled-so, remembers-kept}
+use Rattle.descent.proofs.Laws.{tells-refused, tells-true, tells-literal, tells-not, tells-first, tells-second, tells-least, Met, met-none, met-one, met-enough, met-all, Own, own-link, cond-most, item-few, leads-other, leads-there}
 use borrow.Author.Needs.{needs}
 use borrow.Fn.Kinds.{In}
 use borrow.Fn.PlainCycle.{Measures, is, falls, and}
@@ -221,17 +221,14 @@ holds-returns-8 t c = (tells-least _ _ _ _ _ _ _ _ (reads-as t (c .before .befor
 
 -- ---- leads
 
-link-there : (t : ℕ) (s : leads-lts.Start (leads-given t) (leads-at t) leads.Post) → OfLink (s .args .reg .now) (s .args .n) (s .args .link)
-link-there t s = let r = s .pre .1 .0 .register in record { fine = r .fine; items-are = r .items-are; link-is = omega (arith, s .pre .1 .2, r .links-are) }
-
 leads-label-requires : (t : ℕ) → leads-lts.Need-label-requires (leads-given t) (leads-at t) leads.Post
-leads-label-requires t c κs = link-there t (c .before .before .before .before .before .before)
+leads-label-requires t c κs = let s = c .before .before .before .before .before .before .pre .1 in has-link _ _ _ _ (s .0 .register) (s .2)
 
 leads-returns : (t : ℕ) → leads-lts.Need-returns (leads-given t) (leads-at t) leads.Post
 leads-returns t c = (leads-other _ _ _ _ _ _ _ _ (c .before .label .ensures .0) refl (c .if1 .taken), c .before .before .before .before .before .before .before .before .pre .1 .1)
 
 leads-far-requires : (t : ℕ) → leads-lts.Need-far-requires (leads-given t) (leads-at t) leads.Post
-leads-far-requires t c κs = link-there t (c .before .before .before .before .before .before .before .before)
+leads-far-requires t c κs = let s = c .before .before .before .before .before .before .before .before .pre .1 in has-link _ _ _ _ (s .0 .register) (s .2)
 
 leads-slot-of-requires : (t : ℕ) → leads-lts.Need-slot-of-requires (leads-given t) (leads-at t) leads.Post
 leads-slot-of-requires t c κs = item-few _ _ _ _ (c .before .before .before .before .before .before .before .before .before .pre .1 .0 .register) (c .far .ensures .1)

@@ -1,7 +1,8 @@
 -- Where nothing is nested, no list of places is made; else those that pay.
 use native.Mathlib.Omega.{arith}
 use Rattle.memo.proofs.Laws.{remembers-none}
-use Rattle.descent.proofs.Laws.{no-outs, no-ins, outs-part, ins-part, zeros}
+use Rattle.nearby.proofs.Laws.{zeros, no-outs, no-ins}
+use Rattle.descent.proofs.Laws.{outs-part, ins-part}
 use borrow.Author.Needs.{needs}
 use Rattle.descent.proofs.ask.Statement.{statement}
 use Rattle.descent.proofs.ask.Tie as tie
@@ -23,7 +24,7 @@ slice-aggregate-holds-4 : tie.Need-slice-aggregate-holds-4
 slice-aggregate-holds-4 c = search needs
 
 holds-requires : tie.Need-holds-requires
-holds-requires c κs = let s = c .before .before .before .before .before .before .before .pre in (record { register = s .0; outs-are = no-outs _; ins-are = no-ins _ }, remembers-none _ _ 1 (omega arith), s .1)
+holds-requires c κs = let s = c .before .before .before .before .before .before .before .pre in (record { register = s .0; outs-are = no-outs _ _ (omega arith); ins-are = no-ins _ _ (omega arith) }, remembers-none _ _ 1 (omega arith), s .1)
 
 returns : tie.Need-returns
 returns c = c .before .before .holds .ensures .0
