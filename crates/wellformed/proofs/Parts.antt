@@ -12,7 +12,7 @@ use Rattle.meaning.specs.Register.{Link, near, far}
 use Rattle.meaning.specs.declared.Direction.{Direction}
 use Rattle.meaning.specs.declared.Direction.the-variants.{Outgoing, Incoming}
 use Rattle.meaning.specs.Summary.{Class, Row, Summary, classOf, rowOf}
-use Rattle.meaning.specs.WellFormed.{within, way, linkIn, linkKey, classIn, rowIn, sizes}
+use Rattle.meaning.specs.WellFormed.{within, way, linkIn, linkKey, rowKey, classIn, rowIn, sizes}
 use Rattle.meaning.specs.Bytes.{num2}
 use Rattle.meaning.specs.RegisterFile.{linkAt}
 use Rattle.meaning.specs.SummaryFile.{edgesOffset, wayFrom, labelFrom, rowIs, summaryIn, exact}
@@ -21,7 +21,7 @@ use Rattle.promise.proofs.Promise.{size-parts}
 use Rattle.links.specs.Order.{inOrder}
 use Rattle.reader.specs.Sized.{edgeOf, HasRow}
 use Rattle.reader.proofs.Laws.{laid, edges-are, way-again, row-placed}
-use Rattle.wellformed.specs.Keys.{keyFor, askedKey}
+use Rattle.wellformed.specs.Keys.{keyFor, askedKey, rowTest, keyAt}
 
 -- ---- sizes
 
@@ -44,7 +44,7 @@ by-count S c n m h e f = rw (e, f) (sym (rw (lt-ltb (c .group) (S .groups) h)))
 
 -- ---- a row
 
-pub label-low : (w : ℕ) → w < 32 → labelFrom w < 16
+label-low : (w : ℕ) → w < 32 → labelFrom w < 16
 unfolding labelFrom
 label-low w h = by-bool (ltb w 16) (λ e. rw e (ltb-true w 16 e)) (λ e. rw e (omega (arith, ltb-false w 16 e)))
 
@@ -52,40 +52,49 @@ label-high : (w : ℕ) → 32 ≤ w → 16 ≤ labelFrom w
 unfolding labelFrom
 label-high w h = by-bool (ltb w 16) (λ e. absurd (omega (arith, ltb-true w 16 e))) (λ e. rw e (omega arith))
 
-module _ (s : List ℕ) (j : ℕ) (h : HasRow s j) where
-  abbrev r : Row
-  r = rowOf (summaryIn s) j
+label-same : (w : ℕ) → ltb w 32 ≡ ltb (labelFrom w) 16
+label-same w =
+    by-bool (ltb w 32)
+    (λ e. e ∙ sym (lt-ltb (labelFrom w) 16 (label-low w (ltb-true w 32 e))))
+    (λ e. e ∙ sym (le-ltb (labelFrom w) 16 (label-high w (ltb-false w 32 e))))
 
-  -- the number that direction and label were read from
-  from-one : (w : ℕ) × (r .label ≡ labelFrom w) × (way (r .direction) (r .label) ≡ w)
-  unfolding rowIs
-  from-one =
-      let e = row-placed s j (num2 s 18) h refl .0 in
-      let w = num2 s (num2 s 18 + 8 * j + 2) in
-      (w, ap (λ (r : Row). r .label) e, ap (λ (r : Row). way (r .direction) (r .label)) e ∙ way-again w)
+-- a row read where it stands
+row-judged : (S : Summary) (r : Row) (s : List ℕ) (p : ℕ) → r ≡ rowIs s p → rowTest (length (S .classes)) (S .groups) (S .nearCap) s p ≡ rowIn S r
+unfolding rowTest rowIn rowIs
+row-judged S r s p e = rw (e, label-same (num2 s (p + 2)))
 
-  pub row-label-low : way (r .direction) (r .label) < 32 → r .label < 16
-  row-label-low u = let f = from-one in rw (f .1) (label-low (f .0) (rw (← f .2) u))
+key-judged : (r : Row) (s : List ℕ) (p : ℕ) → r ≡ rowIs s p → keyAt s p ≡ rowKey r
+unfolding keyAt rowKey rowIs
+key-judged r s p e = rw (e, way-again (num2 s (p + 2)))
 
-  pub row-label-high : 32 ≤ way (r .direction) (r .label) → 16 ≤ r .label
-  row-label-high u = let f = from-one in rw (f .1) (label-high (f .0) (rw (← f .2) u))
+module _ (s : List ℕ) (j v p : ℕ) (h : HasRow s j) (e : v ≡ num2 s 18) (q : p ≡ v + 8 * j) where
+  pub row-read : (c g cap : ℕ) → c ≡ length (summaryIn s .classes) → g ≡ summaryIn s .groups → cap ≡ summaryIn s .nearCap
+      → rowTest c g cap s p ≡ rowIn (summaryIn s) (rowOf (summaryIn s) j)
+  row-read c g cap ce ge ke = rw (ce, ge, ke, q) (row-judged (summaryIn s) (rowOf (summaryIn s) j) s (v + 8 * j) (row-placed s j v h e .0))
 
-module _ (S : Summary) (r : Row) where
-  pub class-beyond : length (S .classes) ≤ r .class → false ≡ rowIn S r
-  unfolding rowIn
-  class-beyond h = sym (rw (le-ltb (r .class) (length (S .classes)) h))
+  pub key-read : keyAt s p ≡ rowKey (rowOf (summaryIn s) j)
+  key-read = rw q (key-judged (rowOf (summaryIn s) j) s (v + 8 * j) (row-placed s j v h e .0))
 
-  pub label-beyond : r .class < length (S .classes) → 16 ≤ r .label → false ≡ rowIn S r
-  unfolding rowIn
-  label-beyond c h = sym (rw (lt-ltb (r .class) (length (S .classes)) c, le-ltb (r .label) 16 h))
+  pub row-room : p + 8 ≤ length s
+  row-room = omega (arith, row-placed s j v h e .1)
 
-  pub row-group-beyond : r .class < length (S .classes) → r .label < 16 → S .groups ≤ r .group → false ≡ rowIn S r
-  unfolding rowIn
-  row-group-beyond c l h = sym (rw (lt-ltb (r .class) (length (S .classes)) c, lt-ltb (r .label) 16 l, le-ltb (r .group) (S .groups) h))
+-- the tests of a row, one after another
+module _ (c g cap : ℕ) (s : List ℕ) (at : ℕ) where
+  pub test-class : c ≤ num2 s at → false ≡ rowTest c g cap s at
+  unfolding rowTest
+  test-class h = sym (rw (le-ltb (num2 s at) c h))
 
-  pub by-row-count : (n m : ℕ) → r .class < length (S .classes) → r .label < 16 → r .group < S .groups → n ≡ r .count → m ≡ S .nearCap + 1 → within 1 n m ≡ rowIn S r
-  unfolding rowIn
-  by-row-count n m c l g e f = rw (e, f) (sym (rw (lt-ltb (r .class) (length (S .classes)) c, lt-ltb (r .label) 16 l, lt-ltb (r .group) (S .groups) g)))
+  pub test-way : num2 s at < c → 32 ≤ num2 s (at + 2) → false ≡ rowTest c g cap s at
+  unfolding rowTest
+  test-way h k = sym (rw (lt-ltb (num2 s at) c h, le-ltb (num2 s (at + 2)) 32 k))
+
+  pub test-group : num2 s at < c → num2 s (at + 2) < 32 → g ≤ num2 s (at + 4) → false ≡ rowTest c g cap s at
+  unfolding rowTest
+  test-group h k l = sym (rw (lt-ltb (num2 s at) c h, lt-ltb (num2 s (at + 2)) 32 k, le-ltb (num2 s (at + 4)) g l))
+
+  pub test-count : (n : ℕ) → num2 s at < c → num2 s (at + 2) < 32 → num2 s (at + 4) < g → n ≡ num2 s (at + 6) → within 1 n (cap + 1) ≡ rowTest c g cap s at
+  unfolding rowTest
+  test-count n h k l e = rw e (sym (rw (lt-ltb (num2 s at) c h, lt-ltb (num2 s (at + 2)) 32 k, lt-ltb (num2 s (at + 4)) g l)))
 
 -- ---- class links
 

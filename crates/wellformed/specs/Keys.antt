@@ -2,15 +2,17 @@
 -- a class link joins that class to some class of the group that way". Leans on meaning's WellFormed.
 use Prim.Native.Nat.{ℕ, zero, suc, _+_, _*_, _≤_, _<_, max}
 use mathlib.Core.Path.{_≡_}
-use mathlib.Core.Bool.{Bool, true}
+use mathlib.Core.Bool.{Bool, true, _&&_}
 use mathlib.Core.List.{List, _++_}
+use lib.Dec.{ltb}
 use lib.ListN.{getD, length, take}
 use Rattle.meaning.specs.Count.{tab}
 use Rattle.meaning.specs.Register.{Link, noLink, near, far}
 use Rattle.meaning.specs.declared.Direction.{Direction}
 use Rattle.meaning.specs.declared.Direction.the-variants.{Outgoing, Incoming}
 use Rattle.meaning.specs.Summary.{Summary, classOf, rowOf}
-use Rattle.meaning.specs.WellFormed.{way, rowKey}
+use Rattle.meaning.specs.WellFormed.{within, way, rowKey}
+use Rattle.meaning.specs.Bytes.{num2}
 use Rattle.meaning.specs.SummaryFile.{summaryIn, exact}
 
 -- class, direction with label, and group side by side, as in `rowKey`
@@ -26,6 +28,13 @@ askedKey S d j = let a = getD (S .links) j noLink in keyFor (near d a) d (a .lab
 
 unfoldable pub askedKeys : Summary → List ℕ
 askedKeys S = tab (askedKey S Outgoing) (length (S .links)) ++ tab (askedKey S Incoming) (length (S .links))
+
+-- the row at a place is in range, and its key
+unfoldable pub rowTest : ℕ → ℕ → ℕ → List ℕ → ℕ → Bool
+rowTest c g cap s at = ltb (num2 s at) c && ltb (num2 s (at + 2)) 32 && ltb (num2 s (at + 4)) g && within 1 (num2 s (at + 6)) (cap + 1)
+
+unfoldable pub keyAt : List ℕ → ℕ → ℕ
+keyAt s at = (num2 s at * 65536 + num2 s (at + 2)) * 65536 + num2 s (at + 4)
 
 -- the greatest of f 0, f 1, .. f (n - 1), or 0
 unfoldable pub most : (ℕ → ℕ) → ℕ → ℕ

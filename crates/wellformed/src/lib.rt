@@ -15,7 +15,7 @@ ghost use Rattle.meaning.specs.SummaryFile as file;
 ghost use Rattle.meaning.specs.SummaryFile.{summaryIn, wellFormedFile};
 ghost use Rattle.reader.specs.Sized.{HasClass};
 ghost use Rattle.lists.specs.Writes.{Writes};
-ghost use Rattle.wellformed.specs.Keys.{askedKey, most, Sized, Keyed};
+ghost use Rattle.wellformed.specs.Keys.{askedKey, most, rowTest, keyAt, Sized, Keyed};
 
 // "A summary is well formed when ..". If it is, the keys of its rows are left in `keys` for who reads on.
 pub fn judge(s: &[u8], keys: &mut [u64]) -> bool
@@ -137,13 +137,18 @@ fn rows_fine(s: &[u8], keys: &mut [u64]) -> bool
         × Keyed r (summaryIn (now (s .entry))) (now (keys .exit)) ⌝ }
 {
     let r = reader::rows(s);
+    let at = wire::two(s, 18) as usize;
+    let c = reader::classes(s);
+    let g = reader::groups(s);
+    let cap = reader::near_cap(s);
     let mut least: u64 = 0;
     let mut j = 0;
     while j < r {
-        if !row_fine(s, j) {
+        let place = at + 8 * j;
+        if !row_fine(s, place, c, g, cap) {
             return false;
         }
-        let key = reader::row_key(s, j);
+        let key = row_key(s, place);
         if key < least {
             return false;
         }
@@ -154,20 +159,32 @@ fn rows_fine(s: &[u8], keys: &mut [u64]) -> bool
     true
 }
 
-fn row_fine(s: &[u8], j: usize) -> bool
-    requires { ⌜ Sized (now s) × (j < length (summaryIn (now s) .rows)) ⌝ }
-    ensures { λ r. ⌜ r ≡ rowIn (summaryIn (now (s .entry))) (rowOf (summaryIn (now (s .entry))) j) ⌝ }
+// The row at a place, held against what the header says: classes, groups, and the cap of its count.
+fn row_fine(s: &[u8], at: usize, c: usize, g: u16, cap: u16) -> bool
+    requires { ⌜ (at + 8 ≤ length (now s)) × (cap ≤ 7) ⌝ }
+    ensures { λ r. ⌜ r ≡ rowTest c g cap (now (s .entry)) at ⌝ }
 {
-    if reader::classes(s) <= reader::row_class(s, j).index() {
+    if c <= wire::two(s, at) as usize {
         return false;
     }
-    if 32 <= reader::row_way(s, j) {
+    if 32 <= wire::two(s, at + 2) {
         return false;
     }
-    if reader::groups(s) <= reader::row_group(s, j).0 {
+    if g <= wire::two(s, at + 4) {
         return false;
     }
-    range::within(1, reader::row_count(s, j), reader::near_cap(s) + 1)
+    range::within(1, wire::two(s, at + 6), cap + 1)
+}
+
+// The class, the way and the group of the row at a place side by side: rows ascend by this number.
+fn row_key(s: &[u8], at: usize) -> u64
+    requires { ⌜ at + 8 ≤ length (now s) ⌝ }
+    ensures { λ r. ⌜ (r ≡ keyAt (now (s .entry)) at) × (r < 281474976710656) ⌝ }
+{
+    let class = wire::two(s, at) as u64;
+    let way = wire::two(s, at + 2) as u64;
+    let group = wire::two(s, at + 4) as u64;
+    (class * 65536 + way) * 65536 + group
 }
 
 // Class links are in range and ascend, as the links of a register do.

@@ -1,87 +1,73 @@
 -- The class, direction and label, the group, then the count.
 use native.Mathlib.Omega.{arith}
 use mathlib.Core.Path.{_∙_}
-use Rattle.wellformed.proofs.Parts.{row-label-low, row-label-high, class-beyond, label-beyond, row-group-beyond, by-row-count}
+use Rattle.wellformed.proofs.Parts.{test-class, test-way, test-group, test-count}
 use borrow.Author.Needs.{needs}
 use Rattle.wellformed.proofs.row_fine.Statement.{statement}
 use Rattle.wellformed.proofs.row_fine.Tie as tie
 
-classes-requires : tie.Need-classes-requires
-classes-requires c κs = c .before .pre .0 .exact-is
+two-requires : tie.Need-two-requires
+two-requires c κs = search needs
 
-row-class-requires : tie.Need-row-class-requires
-row-class-requires c κs = let s = c .before .before .pre in record { exact-is = s .0 .exact-is; row-is = s .1 }
-
-index-requires : tie.Need-index-requires
-index-requires c κs = search needs
+cast-if1 : tie.Need-cast-if1
+cast-if1 c = search needs
 
 returns : tie.Need-returns
-returns c = class-beyond _ _ (omega (arith, c .if1 .taken, c .before .index .ensures, c .before .before .row-class .ensures, c .before .before .before .classes .ensures))
+returns c = test-class _ _ _ _ _ (omega (arith, c .if1 .taken, c .before .two .ensures))
 
-row-way-requires : tie.Need-row-way-requires
-row-way-requires c κs = let s = c .before .before .before .before .before .pre in record { exact-is = s .0 .exact-is; row-is = s .1 }
+add-two : tie.Need-add-two
+add-two c = search needs
+
+two-requires-2 : tie.Need-two-requires-2
+two-requires-2 c κs = search needs
 
 returns-2 : tie.Need-returns-2
-returns-2 c =
-    let one = c .before .before in
-    let s = one .before .before .before .before .before .pre in
-    label-beyond _ _ (omega (arith, one .if1 .left, one .before .index .ensures, one .before .before .row-class .ensures, one .before .before .before .classes .ensures))
-    (row-label-high _ _ (record { exact-is = s .0 .exact-is; row-is = s .1 }) (omega (arith, c .if2 .taken, c .before .row-way .ensures)))
+returns-2 c = test-way _ _ _ _ _ (omega (arith, c .before .before .if1 .left, c .before .before .before .two .ensures)) (omega (arith, c .if2 .taken, c .before .two2 .ensures))
 
-groups-requires : tie.Need-groups-requires
-groups-requires c κs = c .before .before .before .before .before .before .before .pre .0 .exact-is
+add-two-2 : tie.Need-add-two-2
+add-two-2 c = search needs
 
-row-group-requires : tie.Need-row-group-requires
-row-group-requires c κs = let s = c .before .before .before .before .before .before .before .before .pre in record { exact-is = s .0 .exact-is; row-is = s .1 }
+two-requires-3 : tie.Need-two-requires-3
+two-requires-3 c κs = search needs
 
 returns-3 : tie.Need-returns-3
 returns-3 c =
-    let two = c .before .before .before .before in
-    let one = two .before .before in
-    let s = one .before .before .before .before .before .pre in
-    row-group-beyond _ _ (omega (arith, one .if1 .left, one .before .index .ensures, one .before .before .row-class .ensures, one .before .before .before .classes .ensures))
-    (row-label-low _ _ (record { exact-is = s .0 .exact-is; row-is = s .1 }) (omega (arith, two .if2 .left, two .before .row-way .ensures)))
-    (omega (arith, c .if3 .taken, c .before .before .row-group .ensures, c .before .before .before .groups .ensures))
+    test-group _ _ _ _ _ (omega (arith, c .before .before .before .before .if1 .left, c .before .before .before .before .before .two .ensures)) (omega (arith, c .before .before .if2 .left, c .before .before .before .two2 .ensures))
+    (omega (arith, c .if3 .taken, c .before .two3 .ensures))
 
-row-count-requires : tie.Need-row-count-requires
-row-count-requires c κs = let s = c .before .before .before .before .before .before .before .before .before .before .before .pre in record { exact-is = s .0 .exact-is; row-is = s .1 }
+add-two-3 : tie.Need-add-two-3
+add-two-3 c = search needs
 
-near-cap-requires : tie.Need-near-cap-requires
-near-cap-requires c κs = c .before .before .before .before .before .before .before .before .before .before .before .before .pre .0 .exact-is
+two-requires-4 : tie.Need-two-requires-4
+two-requires-4 c κs = search needs
 
 add-within : tie.Need-add-within
-add-within c = omega (arith, c .near-cap .ensures, c .before .before .before .before .before .before .before .before .before .before .before .before .before .pre .0 .near-low)
+add-within c = search needs
 
 within-requires : tie.Need-within-requires
 within-requires c κs = search needs
 
 returns-4 : tie.Need-returns-4
 returns-4 c =
-    let three = c .before .before .before in
-    let two = three .before .before .before .before in
-    let one = two .before .before in
-    let s = one .before .before .before .before .before .pre in
     c .within .ensures
-    ∙ by-row-count _ _ _ _ (omega (arith, one .if1 .left, one .before .index .ensures, one .before .before .row-class .ensures, one .before .before .before .classes .ensures))
-    (row-label-low _ _ (record { exact-is = s .0 .exact-is; row-is = s .1 }) (omega (arith, two .if2 .left, two .before .row-way .ensures)))
-    (omega (arith, three .if3 .left, three .before .before .row-group .ensures, three .before .before .before .groups .ensures))
-    (c .before .before .row-count .ensures) (omega (arith, c .before .near-cap .ensures))
+    ∙ test-count _ _ _ _ _ _ (omega (arith, c .before .before .before .before .before .before .if1 .left, c .before .before .before .before .before .before .before .two .ensures)) (omega (arith, c .before .before .before .before .if2 .left, c .before .before .before .before .before .two2 .ensures))
+    (omega (arith, c .before .before .if3 .left, c .before .before .before .two3 .ensures)) (c .before .two4 .ensures)
 
 pub row-fine-spec : {M : Type 1} → statement M
 row-fine-spec =
     tie.close
     (tie.spec
-    classes-requires
-    row-class-requires
-    index-requires
+    two-requires
+    cast-if1
     returns
-    row-way-requires
+    add-two
+    two-requires-2
     returns-2
-    groups-requires
-    row-group-requires
+    add-two-2
+    two-requires-3
     returns-3
-    row-count-requires
-    near-cap-requires
+    add-two-3
+    two-requires-4
     add-within
     within-requires
     returns-4)

@@ -4,6 +4,9 @@ use mathlib.Core.Path.{_≡_, refl, sym, ap, _∙_}
 use mathlib.Core.Bool.{true}
 use Prim.Native.Nat.{ℕ, _-_, _≤_, _<_}
 use lib.ListN.{length, getD, length-set}
+use Rattle.reader.specs.Sized.{HasRow}
+use Rattle.reader.proofs.Laws.{laid}
+use Rattle.wellformed.proofs.Parts.{row-read, key-read, row-room}
 use borrow.Author.Tests.{not-true, not-false}
 use borrow.Author.Count.{below-more}
 use Rattle.theory.proofs.CountLaws.{past}
@@ -14,45 +17,96 @@ use Rattle.wellformed.proofs.rows_fine.Statement.{statement}
 use Rattle.wellformed.proofs.rows_fine.Tie as tie
 
 abbrev Inv-loop : tie.InvT-loop
-Inv-loop s keys₀ r least₀ j₀ keys least j = (j ≤ r) × (least ≡ past (key (summaryIn s)) j) × ((i : ℕ) → i < j → rowRises (summaryIn s) i ≡ true) × ((i : ℕ) → i < j → getD keys i 0 ≡ key (summaryIn s) i) × (length keys ≡ length keys₀)
+Inv-loop s keys₀ r at c g cap least₀ j₀ keys least j = (j ≤ r) × (least ≡ past (key (summaryIn s)) j) × ((i : ℕ) → i < j → rowRises (summaryIn s) i ≡ true) × ((i : ℕ) → i < j → getD keys i 0 ≡ key (summaryIn s) i) × (length keys ≡ length keys₀)
 
 abbrev μ-loop : tie.MeasureT-loop
-μ-loop s keys₀ r least₀ j₀ keys least j = r - j
+μ-loop s keys₀ r at c g cap least₀ j₀ keys least j = r - j
 
 rows-requires : tie.Need-rows-requires Inv-loop μ-loop
 rows-requires c κs = c .before .before .pre .0 .exact-is
 
+two-requires : tie.Need-two-requires Inv-loop μ-loop
+two-requires c κs = omega (arith, laid _ (c .before .before .before .pre .0 .exact-is) .long)
+
+cast-at : tie.Need-cast-at Inv-loop μ-loop
+cast-at c = search needs
+
+classes-requires : tie.Need-classes-requires Inv-loop μ-loop
+classes-requires c κs = c .before .before .before .before .pre .0 .exact-is
+
+groups-requires : tie.Need-groups-requires Inv-loop μ-loop
+groups-requires c κs = c .before .before .before .before .before .pre .0 .exact-is
+
+near-cap-requires : tie.Need-near-cap-requires Inv-loop μ-loop
+near-cap-requires c κs = c .before .before .before .before .before .before .pre .0 .exact-is
+
 loop-holds : tie.Need-loop-holds Inv-loop μ-loop
 loop-holds c = (omega arith, past-none _, (λ i h. absurd (omega arith)), (λ i h. absurd (omega arith)), refl)
 
+mul-place : tie.Need-mul-place Inv-loop μ-loop
+mul-place c = omega (arith, c .before .before .before .before .before .before .rows .ensures)
+
+add-place : tie.Need-add-place Inv-loop μ-loop
+add-place c = omega (arith, c .before .before .before .before .before .before .rows .ensures, c .before .before .before .before .before .two .ensures)
+
 row-fine-requires : tie.Need-row-fine-requires Inv-loop μ-loop
-row-fine-requires c κs = (c .before .before .before .before .before .pre .0, omega (arith, c .loop-test .taken, c .before .before .rows .ensures))
+row-fine-requires c κs =
+    let s = c .before .before .before .before .before .before .before .before .before in
+    let b = s .args .s .now in
+    let l = c .before .loop in
+    let n = c .before .before .before .before .before .before .rows in
+    let at = c .before .before .before .before .before .two in
+    let h : HasRow b (l .j) = record { exact-is = s .pre .0 .exact-is; row-is = omega (arith, c .loop-test .taken, n .ensures) } in
+    (row-room b (l .j) (at .result) _ h (at .ensures) refl, omega (arith, c .before .before .near-cap .ensures, s .pre .0 .near-low))
 
 same-length : tie.Need-same-length Inv-loop μ-loop
 same-length c = c .before .before .before .loop .inv .4
 
 returns : tie.Need-returns Inv-loop μ-loop
-returns c = (row-out _ _ (omega (arith, c .before .before .loop-test .taken, c .before .before .before .before .rows .ensures)) (sym (c .before .row-fine .ensures) ∙ not-true _ (c .if1 .taken)), keyed-no _ _)
+returns c =
+    let s = c .before .before .before .before .before .before .before .before .before .before .before in
+    let b = s .args .s .now in
+    let l = c .before .before .before .loop in
+    let n = c .before .before .before .before .before .before .before .before .rows in
+    let at = c .before .before .before .before .before .before .before .two in
+    let h : HasRow b (l .j) = record { exact-is = s .pre .0 .exact-is; row-is = omega (arith, c .before .before .loop-test .taken, n .ensures) } in
+    let test = row-read b (l .j) (at .result) _ h (at .ensures) refl _ _ _ (c .before .before .before .before .before .before .classes .ensures .0) (c .before .before .before .before .before .groups .ensures) (c .before .before .before .before .near-cap .ensures) in
+    (row-out _ _ (h .row-is) (sym test ∙ sym (c .before .row-fine .ensures) ∙ not-true _ (c .if1 .taken)), keyed-no _ _)
 
 row-key-requires : tie.Need-row-key-requires Inv-loop μ-loop
-row-key-requires c κs = record { exact-is = c .before .before .before .before .before .before .before .pre .0 .exact-is; row-is = omega (arith, c .before .before .loop-test .taken, c .before .before .before .before .rows .ensures) }
+row-key-requires c κs =
+    let s = c .before .before .before .before .before .before .before .before .before .before .before in
+    let b = s .args .s .now in
+    let l = c .before .before .before .loop in
+    let n = c .before .before .before .before .before .before .before .before .rows in
+    let at = c .before .before .before .before .before .before .before .two in
+    let h : HasRow b (l .j) = record { exact-is = s .pre .0 .exact-is; row-is = omega (arith, c .before .before .loop-test .taken, n .ensures) } in
+    row-room b (l .j) (at .result) _ h (at .ensures) refl
 
 same-length-2 : tie.Need-same-length-2 Inv-loop μ-loop
 same-length-2 c = c .before .before .before .before .before .loop .inv .4
 
 returns-2 : tie.Need-returns-2 Inv-loop μ-loop
 returns-2 c =
-    let l = c .before .before .before .before .before .loop .inv in (
-      row-falls _ _ (omega (arith, c .before .before .before .before .loop-test .taken, c .before .before .before .before .before .before .rows .ensures)) (sym (c .before .before .before .row-fine .ensures) ∙ not-false _ (c .before .before .if1 .left))
-          (omega (arith, c .if2 .taken, c .before .row-key .ensures .0, l .1)),
-      keyed-no _ _,
-    )
+    let s = c .before .before .before .before .before .before .before .before .before .before .before .before .before in
+    let b = s .args .s .now in
+    let l = c .before .before .before .before .before .loop in
+    let n = c .before .before .before .before .before .before .before .before .before .before .rows in
+    let at = c .before .before .before .before .before .before .before .before .before .two in
+    let h : HasRow b (l .j) = record { exact-is = s .pre .0 .exact-is; row-is = omega (arith, c .before .before .before .before .loop-test .taken, n .ensures) } in
+    let test = row-read b (l .j) (at .result) _ h (at .ensures) refl _ _ _ (c .before .before .before .before .before .before .before .before .classes .ensures .0) (c .before .before .before .before .before .before .before .groups .ensures) (c .before .before .before .before .before .before .near-cap .ensures) in
+    let e = c .before .row-key .ensures .0 ∙ key-read b (l .j) (at .result) _ h (at .ensures) refl in
+    (row-falls _ _ (h .row-is) (sym test ∙ sym (c .before .before .before .row-fine .ensures) ∙ not-false _ (c .before .before .if1 .left)) (omega (arith, c .if2 .taken, e, l .inv .1)), keyed-no _ _)
 
 mul-keys : tie.Need-mul-keys Inv-loop μ-loop
 mul-keys c = search needs
 
 slice-write-keys : tie.Need-slice-write-keys Inv-loop μ-loop
-slice-write-keys c = omega (arith, c .before .before .before .before .loop-test .taken, c .before .before .before .before .before .before .rows .ensures, c .before .before .before .before .before .before .before .before .before .pre .0 .few-rows, c .before .before .before .before .before .before .before .before .before .pre .1, c .before .before .before .before .before .loop .inv .4)
+slice-write-keys c =
+    let s = c .before .before .before .before .before .before .before .before .before .before .before .before .before in
+    let l = c .before .before .before .before .before .loop in
+    let n = c .before .before .before .before .before .before .before .before .before .before .rows in
+    omega (arith, c .before .before .before .before .loop-test .taken, n .ensures, s .pre .0 .few-rows, s .pre .1, l .inv .4)
 
 add-least : tie.Need-add-least Inv-loop μ-loop
 add-least c = omega (arith, c .before .row-key .ensures .1)
@@ -65,13 +119,20 @@ loop-less c = omega arith
 
 loop-again : tie.Need-loop-again Inv-loop μ-loop
 loop-again c =
-    let l = c .before .before .before .before .before .loop .inv in
-    let e = c .before .row-key .ensures .0 in (
+    let s = c .before .before .before .before .before .before .before .before .before .before .before .before .before in
+    let b = s .args .s .now in
+    let l = c .before .before .before .before .before .loop in
+    let n = c .before .before .before .before .before .before .before .before .before .before .rows in
+    let at = c .before .before .before .before .before .before .before .before .before .two in
+    let h : HasRow b (l .j) = record { exact-is = s .pre .0 .exact-is; row-is = omega (arith, c .before .before .before .before .loop-test .taken, n .ensures) } in
+    let test = row-read b (l .j) (at .result) _ h (at .ensures) refl _ _ _ (c .before .before .before .before .before .before .before .before .classes .ensures .0) (c .before .before .before .before .before .before .before .groups .ensures) (c .before .before .before .before .before .before .near-cap .ensures) in
+    let e = c .before .row-key .ensures .0 ∙ key-read b (l .j) (at .result) _ h (at .ensures) refl in
+    let u = sym test ∙ sym (c .before .before .before .row-fine .ensures) ∙ not-false _ (c .before .before .if1 .left) in (
       omega arith,
       past-next _ _ _ e,
-      below-more _ _ (l .2) (row-rises _ _ (sym (c .before .before .before .row-fine .ensures) ∙ not-false _ (c .before .before .if1 .left)) (omega (arith, c .if2 .left, e, l .1))),
-      key-set (summaryIn (c .before .before .before .before .before .before .before .before .before .args .s .now)) (c .before .before .before .before .before .loop .keys) (c .before .before .before .before .before .loop .j) _ (omega (arith, c .before .before .before .before .loop-test .taken, c .before .before .before .before .before .before .rows .ensures, c .before .before .before .before .before .before .before .before .before .pre .0 .few-rows, c .before .before .before .before .before .before .before .before .before .pre .1, l .4)) e (l .3),
-      simp length-set (l .4),
+      below-more _ _ (l .inv .2) (row-rises _ _ u (omega (arith, c .if2 .left, e, l .inv .1))),
+      key-set (summaryIn b) (l .keys) (l .j) _ (omega (arith, c .before .before .before .before .loop-test .taken, n .ensures, s .pre .0 .few-rows, s .pre .1, l .inv .4)) e (l .inv .3),
+      simp length-set (l .inv .4),
     )
 
 same-length-3 : tie.Need-same-length-3 Inv-loop μ-loop
@@ -80,8 +141,8 @@ same-length-3 c = c .before .loop .inv .4
 returns-3 : tie.Need-returns-3 Inv-loop μ-loop
 returns-3 c =
     let l = c .before .loop .inv in
-    let s = c .before .before .before .before .before .pre in
-    let n = c .before .before .rows .ensures in (
+    let s = c .before .before .before .before .before .before .before .before .before .pre in
+    let n = c .before .before .before .before .before .before .rows .ensures in (
       rows-all _ (λ i h. l .2 i (omega (arith, c .loop-test .left, n))),
       record { kept = λ e. keys-kept _ _ (omega (arith, s .0 .few-rows, s .1, l .4)) (λ i h. l .3 i (omega (arith, c .loop-test .left, n))) },
     )
@@ -93,7 +154,14 @@ rows-fine-spec =
     Inv-loop
     μ-loop
     rows-requires
+    two-requires
+    cast-at
+    classes-requires
+    groups-requires
+    near-cap-requires
     loop-holds
+    mul-place
+    add-place
     row-fine-requires
     same-length
     returns
