@@ -25,7 +25,7 @@ ghost use Rattle.wellformed.specs.Keys.{Keyed};
 ghost use Rattle.proposal.specs.Proposed.{Proposed, Searched, Started, keyBy};
 ghost use Rattle.proposal.specs.Rows.{classRows, sameWords};
 
-// So many keys of rows a class may have: `row_key` has a way and a group below 65,536 each.
+// So many keys of rows a class may have: a key has a way and a group below 65,536 each.
 const CLASS_KEYS: u64 = 4294967296;
 
 // Whether the proposed map is an abstraction of the register: for any grouping and numbering, and whatever the level field says.

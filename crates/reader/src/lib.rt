@@ -8,7 +8,7 @@ ghost use mathlib.Core.Bool.{true};
 ghost use Prim.Native.Nat.{_+_, _≤_, _<_};
 ghost use lib.ListN.{length};
 ghost use Rattle.meaning.specs.Summary.{classOf, rowOf, classAt};
-ghost use Rattle.meaning.specs.WellFormed.{way, rowKey};
+ghost use Rattle.meaning.specs.WellFormed.{way};
 ghost use Rattle.meaning.specs.Bytes.{num2};
 ghost use Rattle.meaning.specs.RegisterFile.{linkAt};
 ghost use Rattle.meaning.specs.SummaryFile.{classSize, classIs, rowIs, summaryIn, exact};
@@ -128,13 +128,6 @@ fn row_place(s: &[u8], j: usize) -> usize
 }
 
 // "Row: class, direction times 16 plus label (out 0, in 1), group, neighbour count capped at µ."
-pub fn row_class(s: &[u8], j: usize) -> Class
-    requires { ⌜ HasRow (now s) j ⌝ }
-    ensures { λ r. ⌜ r .0 ≡ rowOf (summaryIn (now (s .entry))) j .class ⌝ }
-{
-    Class(wire::two(s, row_place(s, j)))
-}
-
 pub fn row_way(s: &[u8], j: usize) -> u16
     requires { ⌜ HasRow (now s) j ⌝ }
     ensures { λ r. ⌜ r ≡ way (rowOf (summaryIn (now (s .entry))) j .direction) (rowOf (summaryIn (now (s .entry))) j .label) ⌝ }
@@ -154,17 +147,6 @@ pub fn row_count(s: &[u8], j: usize) -> u16
     ensures { λ r. ⌜ r ≡ rowOf (summaryIn (now (s .entry))) j .count ⌝ }
 {
     wire::two(s, row_place(s, j) + 6)
-}
-
-// The class, the way and the group of row j side by side: rows ascend by this number.
-pub fn row_key(s: &[u8], j: usize) -> u64
-    requires { ⌜ HasRow (now s) j ⌝ }
-    ensures { λ r. ⌜ (r ≡ rowKey (rowOf (summaryIn (now (s .entry))) j)) × (r < 281474976710656) ⌝ }
-{
-    let class = row_class(s, j);
-    let way = row_way(s, j) as u64;
-    let group = row_group(s, j);
-    (class.0 as u64 * 65536 + way) * 65536 + group.0 as u64
 }
 
 // Where class link j starts.
