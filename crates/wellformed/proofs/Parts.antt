@@ -44,7 +44,7 @@ by-count S c n m h e f = rw (e, f) (sym (rw (lt-ltb (c .group) (S .groups) h)))
 
 -- ---- a row
 
-label-low : (w : ℕ) → w < 32 → labelFrom w < 16
+pub label-low : (w : ℕ) → w < 32 → labelFrom w < 16
 unfolding labelFrom
 label-low w h = by-bool (ltb w 16) (λ e. rw e (ltb-true w 16 e)) (λ e. rw e (omega (arith, ltb-false w 16 e)))
 
