@@ -5,9 +5,9 @@ use casework::dice::Dice;
 use casework::lent;
 use casework::line::Line;
 use condense::Wrote;
-use hestovane::Said;
 use made_register::known;
 use made_register::made;
+use said::Said;
 ghost use Prim.Native.Nat.{_≤_};
 
 // The level i, the neighbour cap µ, the class cap ν.

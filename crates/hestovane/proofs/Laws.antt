@@ -35,7 +35,7 @@ use Rattle.register.specs.Told.{OfRegister}
 use Rattle.question.specs.declared.Asked.{Asked}
 use Rattle.question.specs.declared.Asked.the-variants as asks
 use Rattle.inquiry.specs.Known.{Whole, asked}
-use Rattle.hestovane.specs.Told.{Short}
+use Rattle.hestovane.specs.Short.{Short}
 
 -- ---- the register
 

@@ -29,7 +29,7 @@ use Rattle.question.specs.Read as read
 use Rattle.question.proofs.Laws.{verdict-accepted}
 use Rattle.wellformed.specs.Keys.{Keyed}
 use Rattle.hestovane.specs.Readied.{Readied}
-use Rattle.hestovane.specs.Told.{Short}
+use Rattle.hestovane.specs.Short.{Short}
 
 -- 7, as the code tests it
 pub beyond-by : (S : Summary) (t : Question) (d h : ℕ) → d ≡ depth t → h ≡ threshold t → ltb (S .level) d || ltb (S .nearCap + 1) h ≡ beyond S t

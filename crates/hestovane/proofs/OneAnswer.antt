@@ -16,9 +16,9 @@ use Rattle.condense.specs.Written as written
 use Rattle.condense.specs.Written.{Gives}
 use Rattle.condense.specs.declared.Wrote.{Wrote}
 use Rattle.condense.specs.declared.Wrote.the-variants.{Length, Refused}
-use Rattle.hestovane.specs.Told.{told}
-use Rattle.hestovane.specs.declared.Said.{Said}
-use Rattle.hestovane.specs.declared.Said.the-variants.{Yes, No, Refused as Not}
+use Rattle.said.specs.Told.{told}
+use Rattle.said.specs.declared.Said.{Said}
+use Rattle.said.specs.declared.Said.the-variants.{Yes, No, Refused as Not}
 
 -- ---- an answer is told by its numbers and words
 

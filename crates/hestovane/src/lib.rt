@@ -6,27 +6,21 @@ use names::Item;
 use question::Asked;
 use question::Filled;
 use register::Judged;
+use said::Said;
 ghost use mathlib.Core.Path.{_≡_};
 ghost use Prim.Native.Nat.{_≤_};
 ghost use lib.ListN.{length, take};
 ghost use Rattle.meaning.specs.QuestionFile.{question};
-ghost use Rattle.meaning.specs.Refusals.{numberOf};
 ghost use Rattle.meaning.specs.Bytes.{put2, pack};
-ghost use Rattle.meaning.specs.Answers.{word, number, returned, code, left, into, askTree, askRegister, askSummary};
+ghost use Rattle.meaning.specs.Answers.{returned, code, left, into, askTree, askRegister, askSummary};
 ghost use Rattle.meaning.specs.Answers as answers;
 ghost use Rattle.register.specs.Told.{OfRegister};
 ghost use Rattle.condense.specs.Written as written;
 ghost use Rattle.condense.specs.Written.{Gives};
 ghost use Rattle.inquiry.specs.Known.{Whole};
 ghost use Rattle.hestovane.specs.Readied.{Readied};
-ghost use Rattle.hestovane.specs.Told.{told, Short};
-
-// Yes, no, or the refusal.
-pub enum Said {
-    Yes,
-    No,
-    Refused(Refusal),
-}
+ghost use Rattle.hestovane.specs.Short.{Short};
+ghost use Rattle.said.specs.Told.{told};
 
 // Whether the question holds at the item of the register: "ask a register 1, 2, 3, 5, 8".
 pub fn ask_register(reg: &[u8], q: &[u8], item: u16) -> Said
@@ -64,7 +58,7 @@ fn ask_whole(reg: &[u8], n: usize, m: usize, q: &[u8], depth: usize, item: u16) 
     }
     let asked = inquiry::ask(reg, n, m, q, depth, Item(item));
     match asked {
-        Asked::Said(yes) => spoken(yes),
+        Asked::Said(yes) => said::spoken(yes),
         Asked::Refused(refusal) => Said::Refused(refusal),
     }
 }
@@ -117,7 +111,7 @@ fn check_accepted(reg: &[u8], n: usize, m: usize, s: &[u8]) -> Said
 {
     let mut keys = [0u64; 4096];
     if wellformed::judge(s, &mut keys) {
-        return spoken(proposal::check(reg, n, m, s, &keys));
+        return said::spoken(proposal::check(reg, n, m, s, &keys));
     }
     Said::Refused(Refusal::Summary)
 }
@@ -153,7 +147,7 @@ fn ask_read(s: &[u8], keys: &[u64], q: &[u8], depth: usize, threshold: usize, it
     let Asked::Said(yes) = consult::ask(q, depth, s, keys, reader::class_of(s, Item(item))) else {
         return Said::Refused(Refusal::Question);
     };
-    spoken(yes)
+    said::spoken(yes)
 }
 
 // The items of the summary where the question holds, into the lent buffer: "list from a summary 6, 5, 7, 9".
@@ -209,40 +203,6 @@ fn put_list(named: &[u16], r: usize, out: &mut [u8]) -> Wrote
     Wrote::Length(2 * r)
 }
 
-fn spoken(yes: bool) -> Said
-    ensures { λ r. ⌜ told r ≡ word yes ⌝ }
-{
-    if yes { Said::Yes } else { Said::No }
-}
-
-// Minus the refusal's number.
-fn minus(refusal: Refusal) -> i32
-    ensures { λ r. ⌜ r ≡ code (number (numberOf refusal)) ⌝ }
-{
-    match refusal {
-        Refusal::Header => -1,
-        Refusal::Size => -2,
-        Refusal::Link => -3,
-        Refusal::Range => -4,
-        Refusal::Question => -5,
-        Refusal::Summary => -6,
-        Refusal::Beyond => -7,
-        Refusal::Item => -8,
-        Refusal::Room => -9,
-    }
-}
-
-// 1 for yes, 0 for no, or minus the refusal's number.
-fn coded(answer: Said) -> i32
-    ensures { λ r. ⌜ r ≡ code (told answer) ⌝ }
-{
-    match answer {
-        Said::Yes => 1,
-        Said::No => 0,
-        Said::Refused(refusal) => minus(refusal),
-    }
-}
-
 // The length written, or minus the refusal's number.
 fn measured(answer: Wrote) -> i32
     requires { ⌜ Short (written.told answer) ⌝ }
@@ -250,7 +210,7 @@ fn measured(answer: Wrote) -> i32
 {
     match answer {
         Wrote::Length(long) => long as i32,
-        Wrote::Refused(refusal) => minus(refusal),
+        Wrote::Refused(refusal) => said::minus(refusal),
     }
 }
 
@@ -266,21 +226,21 @@ pub extern "C" fn hestovane_condense(i: u16, mu: u16, nu: u16, reg: &[u8], out: 
 pub extern "C" fn hestovane_check(reg: &[u8], s: &[u8]) -> i32
     ensures { λ r. ⌜ r ≡ code (returned (answers.check (now (reg .entry)) (now (s .entry)))) ⌝ }
 {
-    coded(check(reg, s))
+    said::coded(check(reg, s))
 }
 
 #[no_mangle]
 pub extern "C" fn hestovane_ask_register(reg: &[u8], q: &[u8], item: u16) -> i32
     ensures { λ r. ⌜ r ≡ code (returned (askRegister (now (reg .entry)) (now (q .entry)) item)) ⌝ }
 {
-    coded(ask_register(reg, q, item))
+    said::coded(ask_register(reg, q, item))
 }
 
 #[no_mangle]
 pub extern "C" fn hestovane_ask_summary(s: &[u8], q: &[u8], item: u16) -> i32
     ensures { λ r. ⌜ r ≡ code (returned (askSummary (now (s .entry)) (now (q .entry)) item)) ⌝ }
 {
-    coded(ask_summary(s, q, item))
+    said::coded(ask_summary(s, q, item))
 }
 
 #[no_mangle]

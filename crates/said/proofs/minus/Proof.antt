@@ -1,8 +1,8 @@
 -- Minus the number that each refusal has.
 use Rattle.meaning.specs.Answers.{code}
 use borrow.Author.Needs.{needs}
-use Rattle.hestovane.proofs.minus.Statement.{statement}
-use Rattle.hestovane.proofs.minus.Tie as tie
+use Rattle.said.proofs.minus.Statement.{statement}
+use Rattle.said.proofs.minus.Tie as tie
 
 enum-told : tie.Need-enum-told
 enum-told c = search needs

@@ -1,8 +1,8 @@
 -- Yes is true and no is false.
 use mathlib.Core.Path.{ap, sym}
 use Rattle.meaning.specs.Answers.{word}
-use Rattle.hestovane.proofs.spoken.Statement.{statement}
-use Rattle.hestovane.proofs.spoken.Tie as tie
+use Rattle.said.proofs.spoken.Statement.{statement}
+use Rattle.said.proofs.spoken.Tie as tie
 
 returns : tie.Need-returns
 returns c = ap word (sym (c .if1 .taken))

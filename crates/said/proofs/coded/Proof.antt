@@ -4,8 +4,8 @@ use mir.Facts.{toZ-ofZ}
 use mathlib.Core.Path.{sym, _∙_}
 use Rattle.meaning.specs.Answers.{code}
 use borrow.Author.Needs.{needs}
-use Rattle.hestovane.proofs.coded.Statement.{statement}
-use Rattle.hestovane.proofs.coded.Tie as tie
+use Rattle.said.proofs.coded.Statement.{statement}
+use Rattle.said.proofs.coded.Tie as tie
 
 enum-told : tie.Need-enum-told
 enum-told c = search needs
