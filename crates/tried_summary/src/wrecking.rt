@@ -106,8 +106,8 @@ impl Changes {
 
 // One change more: the answers to s.
 fn judged(so_far: Changes, own: &[u8], other: &[u8], s: &[u8]) -> Changes {
-    let first = calls::letter(hestovane::check(own, s));
-    let second = calls::letter(hestovane::check(other, s));
+    let first = calls::checked(own, own.len(), s, s.len());
+    let second = calls::checked(other, other.len(), s, s.len());
     so_far.with(first, second)
 }
 
