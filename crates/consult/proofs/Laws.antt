@@ -1,5 +1,5 @@
 -- What `holds` and `neighbour_count` say of every tree at an entry, put together from what their calls say. Leans on question's laws of the
--- tree that stands at an entry, and on Window.
+-- tree that stands at an entry, and on window's of a class's rows.
 use mathlib.Core.Path.{_≡_, refl, sym, ap, ap₂, subst, _∙_}
 use mathlib.Core.Bool.{Bool, true, false, not, cond, _&&_, _||_}
 use mathlib.Core.Logic.{_⊎_, inl, inr, ⊎-elim}
@@ -44,9 +44,10 @@ use Rattle.wellformed.proofs.Laws.{well-file, sized-file, groups-file}
 use Rattle.wellformed.proofs.Match.{row-at}
 use Rattle.consult.specs.declared.Counted.{Counted}
 use Rattle.consult.specs.declared.Counted.the-variants.{Sum}
-use Rattle.consult.specs.Consulted.{Consulted, Own, adds, Holds, Counts, Answers, reached, Remembers}
-use Rattle.consult.proofs.Lowest.{lowest-below}
-use Rattle.consult.proofs.Window.{counted-own}
+use Rattle.window.specs.Own.{Own}
+use Rattle.window.proofs.Lowest.{lowest-below}
+use Rattle.window.proofs.Together.{counted-own}
+use Rattle.consult.specs.Consulted.{Consulted, adds, Holds, Counts, Answers, reached, Remembers}
 
 -- ---- whether an entry holds, by its kind
 

@@ -33,14 +33,6 @@ pub record Consulted (s keys lowest : List ℕ) : Type 0 where
   pub lowest-long : length lowest ≡ 1024
   pub lowest-are : (g : ℕ) → g < summaryIn s .groups → getD lowest g 0 ≡ lowestClass (summaryIn s) g
 
--- "the class's rows in that direction and label": those from row low up to row high, and no others
-pub record Own (S : Summary) (k : ℕ) (d : Direction) (l low high : ℕ) : Type 0 where
-  pub rises : low ≤ high
-  pub ends : high ≤ length (S .rows)
-  pub own : (i : ℕ) → low ≤ i → i < high → rowFor k d l (rowOf S i) ≡ true
-  pub before : (i : ℕ) → i < low → rowFor k d l (rowOf S i) ≡ false
-  pub behind : (i : ℕ) → high ≤ i → i < length (S .rows) → rowFor k d l (rowOf S i) ≡ false
-
 -- what row j adds: its count, where the operand holds "at the group's lowest-numbered class"
 abbrev pub adds : Summary → Question → ℕ → ℕ
 adds S t j = cond (holdsAt S t (lowestClass S ((rowOf S j) .group))) ((rowOf S j) .count) 0

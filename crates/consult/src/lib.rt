@@ -1,8 +1,7 @@
 // Whether a question holds at a class of a summary: "whether an entry holds asks for a count of neighbours, and that count asks whether the
-// operand holds". Leans on entry and question for what is asked, on reader for the file's numbers, on seek for a class's rows and on memo for
-// what was said.
+// operand holds". Leans on entry and question for what is asked, on reader for the file's numbers, on window for a class's rows and a group's
+// lowest class, and on memo for what was said.
 use entry::Reading;
-use meaning::Direction;
 use meaning::Kind;
 use meaning::Refusal;
 use names::Class;
@@ -15,68 +14,15 @@ ghost use mathlib.Core.Bool.{true, cond};
 ghost use Prim.Native.Nat.{ℕ, _+_, _≤_, _<_};
 ghost use lib.ListN.{length, getD};
 ghost use Rattle.meaning.specs.Summary.{lowestClass};
-ghost use Rattle.meaning.specs.WellFormed as meant;
 ghost use Rattle.meaning.specs.SummaryFile.{summaryIn, wellFormedFile};
 ghost use Rattle.wellformed.specs.Keys.{Keyed};
-ghost use Rattle.consult.specs.Consulted.{Consulted, Own, Holds, Counts, Answers, Remembers};
+ghost use Rattle.consult.specs.Consulted.{Consulted, Holds, Counts, Answers, Remembers};
 ghost use Rattle.consult.specs.Consulted as consulted;
 
 // A count of neighbours.
 enum Counted {
     Sum(u32),
     Refused(Refusal),
-}
-
-// The rows from `low` up to `high`.
-struct Rows {
-    low: usize,
-    high: usize,
-}
-
-// "the group's lowest-numbered class", for each group. From the last class to the first, each is entered at its group, so that the lowest
-// is the last to be.
-fn put_lowest(s: &[u8], lowest: &mut [u16])
-    requires { ⌜ (wellFormedFile (now s) ≡ true) × (length (now lowest) ≡ 1024) ⌝ }
-    ensures { λ _. ⌜ (length (now (lowest .exit)) ≡ 1024) × ((g : ℕ) → g < summaryIn (now (s .entry)) .groups → getD (now (lowest .exit)) g 0 ≡ lowestClass (summaryIn (now (s .entry))) g) ⌝ }
-{
-    let c = reader::classes(s);
-    let mut passed = 0;
-    while passed < c {
-        passed += 1;
-        let class = Class((c - passed) as u16);
-        lowest[reader::group(s, class).index()] = class.0;
-    }
-}
-
-// The class that is entered at the group.
-fn lowest_of(lowest: &[u16], group: Group) -> Class
-    requires { ⌜ group .0 < length (now lowest) ⌝ }
-    ensures { λ r. ⌜ r .0 ≡ getD (now (lowest .entry)) (group .0) 0 ⌝ }
-{
-    Class(lowest[group.0 as usize])
-}
-
-// "direction times 16 plus label (out 0, in 1)".
-fn way(direction: Direction, label: u8) -> u16
-    requires { ⌜ label < 16 ⌝ }
-    ensures { λ r. ⌜ r ≡ meant.way direction label ⌝ }
-{
-    match direction {
-        Direction::Outgoing => label as u16,
-        Direction::Incoming => 16 + label as u16,
-    }
-}
-
-// "the class's rows in that direction and label": keys that begin alike stand together.
-fn rows_of(s: &[u8], keys: &[u64], class: Class, direction: Direction, label: u8) -> Rows
-    requires { ⌜ (wellFormedFile (now s) ≡ true) × (length (now keys) ≡ 4096) × Keyed true (summaryIn (now s)) (now keys) × (label < 16) ⌝ }
-    ensures { λ r. ⌜ Own (summaryIn (now (s .entry))) (class .0) direction label (r .low) (r .high) ⌝ }
-{
-    let r = reader::rows(s);
-    let begin = class.0 as u64 * 65536 + way(direction, label) as u64;
-    let low = seek::find(keys, r, begin * 65536);
-    let high = seek::find(keys, r, (begin + 1) * 65536);
-    Rows { low, high }
 }
 
 // Whether the question, which has that depth, holds at the class. Where no at-least stands inside another, nothing is worth keeping; and a
@@ -86,7 +32,7 @@ pub fn ask(q: &[u8], depth: usize, s: &[u8], keys: &[u64], class: Class) -> Aske
     ensures { λ r. ⌜ Holds (now (q .entry)) 0 (summaryIn (now (s .entry))) (class .0) r ⌝ }
 {
     let mut lowest = [0u16; 1024];
-    put_lowest(s, &mut lowest);
+    window::put_lowest(s, &mut lowest);
     if depth < 2 {
         let mut nothing = [0u8; 1];
         return holds(q, 0, s, keys, &lowest, &mut nothing, class);
@@ -105,7 +51,7 @@ pub fn put_answers(q: &[u8], depth: usize, s: &[u8], keys: &[u64], answers: &mut
     ensures { λ r. ⌜ Answers (now (q .entry)) (summaryIn (now (s .entry))) r (now (answers .exit)) ⌝ }
 {
     let mut lowest = [0u16; 1024];
-    put_lowest(s, &mut lowest);
+    window::put_lowest(s, &mut lowest);
     if depth < 2 {
         let mut nothing = [0u8; 1];
         return put_each(q, s, keys, &lowest, &mut nothing, answers);
@@ -183,7 +129,7 @@ fn holds(
             label,
             threshold,
         } => {
-            let own = rows_of(s, keys, class, direction, label);
+            let own = window::rows_of(s, keys, class, direction, label);
             let count = neighbour_count(q, at + 1, s, keys, lowest, known, own.low, own.high);
             reached(threshold, count)
         }
@@ -239,7 +185,15 @@ fn group_holds(
     if told != 0 {
         return Asked::Said(told == 2);
     }
-    let Asked::Said(yes) = holds(q, at, s, keys, lowest, known, lowest_of(lowest, group)) else {
+    let Asked::Said(yes) = holds(
+        q,
+        at,
+        s,
+        keys,
+        lowest,
+        known,
+        window::lowest_of(lowest, group),
+    ) else {
         return Asked::Refused(Refusal::Question);
     };
     memo::remember(known, slot, yes);

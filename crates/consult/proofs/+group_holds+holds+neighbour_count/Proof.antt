@@ -31,12 +31,12 @@ use Rattle.consult.proofs.neighbour_count.Kinds as count-kinds
 use Rattle.consult.proofs.+group_holds+holds+neighbour_count.Lts-neighbour_count as count-lts
 use Rattle.consult.proofs.added.Reads as added-reads
 use Rattle.memo.proofs.decides.Reads as decides-reads
-use Rattle.consult.proofs.lowest_of.Reads as lowest-of-reads
+use Rattle.window.proofs.lowest_of.Reads as lowest-of-reads
 use Rattle.consult.proofs.reached.Reads as reached-reads
 use Rattle.memo.proofs.recalled.Reads as recalled-reads
 use Rattle.memo.proofs.remember.Reads as remember-reads
 use Rattle.memo.proofs.slot_of.Reads as slot-of-reads
-use Rattle.consult.proofs.rows_of.Reads as rows-of-reads
+use Rattle.window.proofs.rows_of.Reads as rows-of-reads
 use Rattle.memo.proofs.turned.Reads as turned-reads
 use Rattle.entry.proofs.read.Reads as read-reads
 use Rattle.entry.proofs.shows.Reads as shows-reads

@@ -2,10 +2,10 @@
 use mathlib.Core.Path.{ap}
 use Prim.Native.Nat.{ℕ, _+_, _*_}
 use Rattle.wellformed.proofs.Laws.{well-file}
-use Rattle.consult.proofs.Window.{searchable, window}
+use Rattle.window.proofs.Together.{searchable, window}
 use borrow.Author.Needs.{needs}
-use Rattle.consult.proofs.rows_of.Statement.{statement}
-use Rattle.consult.proofs.rows_of.Tie as tie
+use Rattle.window.proofs.rows_of.Statement.{statement}
+use Rattle.window.proofs.rows_of.Tie as tie
 
 rows-requires : tie.Need-rows-requires
 rows-requires c κs = well-file _ (c .before .before .pre .0) .0

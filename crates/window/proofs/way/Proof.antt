@@ -1,8 +1,8 @@
 -- A direction and a label side by side, by the direction.
 use Rattle.meaning.specs.WellFormed as meant
 use borrow.Author.Needs.{needs}
-use Rattle.consult.proofs.way.Statement.{statement}
-use Rattle.consult.proofs.way.Tie as tie
+use Rattle.window.proofs.way.Statement.{statement}
+use Rattle.window.proofs.way.Tie as tie
 
 enum-told : tie.Need-enum-told
 enum-told c = search needs

@@ -23,7 +23,7 @@ use Rattle.wellformed.specs.Keys.{rowKeys, Keyed}
 use Rattle.wellformed.proofs.Laws.{well-file, sized-file, groups-file}
 use Rattle.wellformed.proofs.Match.{row-at}
 use Rattle.wellformed.proofs.Loops.{keyed-rises}
-use Rattle.consult.specs.Consulted.{Own}
+use Rattle.window.specs.Own.{Own}
 
 -- a row's class and way side by side, which its key begins with
 begins : Row → ℕ

@@ -5,10 +5,10 @@ use native.Mathlib.Omega.{arith}
 use lib.ListN.{length, length-set}
 use Rattle.meaning.specs.SummaryFile.{summaryIn}
 use Rattle.wellformed.proofs.Laws.{well-file}
-use Rattle.consult.proofs.Lowest.{Entered, none-entered, one-entered, all-entered, class-low}
+use Rattle.window.proofs.Lowest.{Entered, none-entered, one-entered, all-entered, class-low}
 use borrow.Author.Needs.{needs}
-use Rattle.consult.proofs.put_lowest.Statement.{statement}
-use Rattle.consult.proofs.put_lowest.Tie as tie
+use Rattle.window.proofs.put_lowest.Statement.{statement}
+use Rattle.window.proofs.put_lowest.Tie as tie
 
 abbrev Inv-loop : tie.InvT-loop
 Inv-loop s lowest₀ c passed₀ lowest passed = (passed ≤ c) × (length lowest ≡ 1024) × Entered (summaryIn s) lowest (c - passed)

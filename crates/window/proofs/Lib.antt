@@ -1,0 +1,3 @@
+-- Laws of the lowest classes, and of a class's own rows.
+pub mod Lowest
+pub mod Together
