@@ -12,7 +12,8 @@ use Rattle.theory.proofs.CountLaws.{by-eq, tab-same}
 use Rattle.theory.proofs.NumberLaws.{number-cong}
 use Rattle.theory.proofs.ClassListLaws.{class-list, alike-next}
 use Rattle.signature.specs.Signature.{sameMarks}
-use Rattle.alike.specs.Step.{OfClasses, RowsStand, Reached, Onward}
+use Rattle.surround.specs.Surroundings.{OfClasses, RowsStand}
+use Rattle.alike.specs.Step.{Reached, Onward}
 
 -- a copy keeps the length
 pub copied-long : (n : ℕ) (from to after : List ℕ) → n ≤ length from → n ≤ length to → after ≡ take n from ++ drop n to → length after ≡ length to

@@ -25,7 +25,7 @@ use Rattle.wire.proofs.Sets.{sets-left}
 use Rattle.register.specs.Told.{OfRegister}
 use Rattle.register.proofs.Laws.{limits}
 use Rattle.alike.specs.Step.{Reached}
-use Rattle.alike.proofs.Keys.{of-fine}
+use Rattle.surround.proofs.Keys.{of-fine}
 use Rattle.alike.proofs.ByLevel.{take-level}
 use Rattle.summary.specs.Numbers.{Parts, numbers, headOf, headNumbers, classFields, classNumbers, rowNumbers, edgeNumbers}
 use Rattle.summary.proofs.Laws.{parts-bytes, size-numbers}

@@ -10,7 +10,7 @@ use Rattle.meaning.specs.RegisterFile.{registerIn}
 use Rattle.meaning.specs.Refusals.{numberOf}
 use Rattle.meaning.specs.Answers.{Answer, Returned, number, size, returned, left}
 use Rattle.register.specs.Told.{OfRegister}
-use Rattle.alike.specs.Step.{RowsStand}
+use Rattle.surround.specs.Surroundings.{RowsStand}
 use Rattle.condense.specs.declared.Wrote.{Wrote}
 use Rattle.condense.specs.declared.Wrote.the-variants.{Length, Refused}
 

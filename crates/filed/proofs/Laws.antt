@@ -21,9 +21,9 @@ use Rattle.wire.proofs.Sets.{then-record, length-records, pack-tab}
 use Rattle.summary.specs.Numbers.{rowNumbers}
 use Rattle.summary.proofs.Laws.{pack-append}
 use Rattle.rows.proofs.Joined.{joined-next, joined-fits}
-use Rattle.alike.specs.Step.{wordOf, itemRows, itemStart, RowsStand}
-use Rattle.alike.proofs.Words.{RowFits, way-below, word-fields, rows-fit}
-use Rattle.alike.proofs.Laws.{row-count, row-word}
+use Rattle.surround.specs.Surroundings.{wordOf, itemRows, itemStart, RowsStand}
+use Rattle.surround.proofs.Words.{RowFits, way-below, word-fields, rows-fit}
+use Rattle.surround.proofs.Laws.{row-count, row-word}
 use Rattle.lists.proofs.Laws.{places}
 use Rattle.filed.specs.Copied.{wordNumbers, copied, Words, classRows, Given}
 

@@ -9,7 +9,7 @@ use Rattle.meaning.specs.Register.{Register}
 use Rattle.meaning.specs.Summary.{Row}
 use Rattle.meaning.specs.Level.{classCount, lowestItem, Numbering}
 use Rattle.meaning.specs.Condense.{rowsAt, by}
-use Rattle.alike.specs.Step.{itemStart, RowsStand}
+use Rattle.surround.specs.Surroundings.{itemStart, RowsStand}
 
 -- a word of rows taken apart, with the class k in front; and so many words from a place on
 unfoldable pub wordNumbers : ℕ → ℕ → List ℕ

@@ -28,10 +28,10 @@ use Rattle.theory.proofs.OneLaws.{row-fine, order-parts}
 use Rattle.theory.proofs.CheckLaws.{rows-right as test-right}
 use Rattle.register.specs.Told.{OfRegister}
 use Rattle.order.proofs.Front.{tab-read}
-use Rattle.alike.specs.Step.{OfClasses, wordOf, words, itemRows, itemStart, RowsStand}
-use Rattle.alike.proofs.Words.{RowFits, words-length, words-at, words-tell, rows-fit}
-use Rattle.alike.proofs.Laws.{rows-stand, row-count, row-word, row-within}
-use Rattle.alike.proofs.Keys.{of-fine}
+use Rattle.surround.specs.Surroundings.{OfClasses, wordOf, words, itemRows, itemStart, RowsStand}
+use Rattle.surround.proofs.Words.{RowFits, words-length, words-at, words-tell, rows-fit}
+use Rattle.surround.proofs.Laws.{rows-stand, row-count, row-word, row-within}
+use Rattle.surround.proofs.Keys.{of-fine}
 use Rattle.proposal.specs.Proposed.{Proposed, Started}
 use Rattle.proposal.specs.Rows.{classRows, sameWords}
 use Rattle.proposal.proofs.Laws.{front, all-same}

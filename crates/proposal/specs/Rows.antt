@@ -6,7 +6,7 @@ use lib.Dec.{eqb}
 use lib.ListN.{getD, length}
 use Rattle.meaning.specs.Count.{all}
 use Rattle.meaning.specs.Summary.{Row, noRow}
-use Rattle.alike.specs.Step.{wordOf}
+use Rattle.surround.specs.Surroundings.{wordOf}
 
 unfoldable pub classRows : ℕ → List Row → List Row
 classRows k [] = []

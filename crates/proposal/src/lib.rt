@@ -20,7 +20,7 @@ ghost use Rattle.meaning.specs.RegisterFile.{registerIn};
 ghost use Rattle.meaning.specs.SummaryFile.{summaryIn, exact, wellFormedFile};
 ghost use Rattle.register.specs.Told.{OfItems, OfRegister};
 ghost use Rattle.reader.specs.Sized.{edgeOf, HasRow};
-ghost use Rattle.alike.specs.Step.{wordOf};
+ghost use Rattle.surround.specs.Surroundings.{wordOf};
 ghost use Rattle.wellformed.specs.Keys.{Keyed};
 ghost use Rattle.proposal.specs.Proposed.{Proposed, Searched, Started, keyBy};
 ghost use Rattle.proposal.specs.Rows.{classRows, sameWords};
@@ -248,7 +248,7 @@ fn rows_equal(reg: &[u8], n: usize, m: usize, s: &[u8], mu: u8, keys: &[u64]) ->
     let mut room = [0u64; 4096];
     let mut other = [0u64; 4096];
     put_groups(n, s, &mut groups);
-    alike::item_rows(
+    surround::item_rows(
         reg,
         n,
         m,

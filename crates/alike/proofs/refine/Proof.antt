@@ -6,7 +6,7 @@ use Prim.Native.Nat.{_+_, _-_, _≤_}
 use lib.ListN.{length}
 use Rattle.meaning.specs.RegisterFile.{registerIn}
 use Rattle.register.proofs.Laws.{limits}
-use Rattle.alike.proofs.Keys.{of-fine}
+use Rattle.surround.proofs.Keys.{of-fine}
 use Rattle.alike.proofs.refine.Statement.{statement}
 use Rattle.alike.proofs.refine.Tie as tie
 

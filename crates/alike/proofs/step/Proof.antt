@@ -8,8 +8,9 @@ use lib.Seq.{getD-take}
 use Rattle.meaning.specs.Level.{classCount}
 use Rattle.meaning.specs.RegisterFile.{registerIn}
 use Rattle.register.proofs.Laws.{limits}
-use Rattle.alike.proofs.Keys.{list-few}
-use Rattle.alike.proofs.Laws.{rows-stand, rows-laid, step-numbers}
+use Rattle.surround.proofs.Keys.{list-few}
+use Rattle.surround.proofs.Laws.{rows-stand}
+use Rattle.alike.proofs.Laws.{rows-laid, step-numbers}
 use borrow.Author.Needs.{needs}
 use Rattle.alike.proofs.step.Statement.{statement}
 use Rattle.alike.proofs.step.Tie as tie

@@ -7,7 +7,7 @@ use Rattle.meaning.specs.Count.{ascends}
 use Rattle.meaning.specs.RegisterFile.{registerIn}
 use Rattle.meaning.specs.SummaryFile.{summaryIn}
 use Rattle.register.proofs.Laws.{limits}
-use Rattle.alike.proofs.Keys.{of-fine}
+use Rattle.surround.proofs.Keys.{of-fine}
 use Rattle.seek.specs.Keys.{sameMembers}
 use Rattle.proposal.proofs.Images.{images, links-ascend}
 use Rattle.proposal.proofs.Laws.{front}

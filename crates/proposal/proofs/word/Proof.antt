@@ -1,5 +1,5 @@
 -- The word of a row from its fields.
-use Rattle.alike.specs.Step.{wordOf}
+use Rattle.surround.specs.Surroundings.{wordOf}
 use borrow.Author.Needs.{needs}
 use Rattle.proposal.proofs.word.Statement.{statement}
 use Rattle.proposal.proofs.word.Tie as tie

@@ -9,7 +9,7 @@ use lib.ListN.{getD}
 use Rattle.meaning.specs.Summary.{rowOf}
 use Rattle.meaning.specs.SummaryFile.{summaryIn}
 use Rattle.theory.proofs.CountLaws.{all-yes, all-no}
-use Rattle.alike.specs.Step.{wordOf}
+use Rattle.surround.specs.Surroundings.{wordOf}
 use Rattle.proposal.proofs.Laws.{told-yes, told-no}
 use Rattle.proposal.proofs.words_equal.Statement.{statement}
 use Rattle.proposal.proofs.words_equal.Tie as tie

@@ -7,10 +7,10 @@ use Rattle.meaning.specs.Register.{linkOf}
 use Rattle.meaning.specs.RegisterFile.{registerIn}
 use Rattle.lists.specs.Writes.{Writes}
 use Rattle.lists.proofs.Laws.{writes-none, writes-next}
-use Rattle.alike.specs.Step.{keyOf}
+use Rattle.surround.specs.Surroundings.{keyOf}
 use borrow.Author.Needs.{needs}
-use Rattle.alike.proofs.put_keys.Statement.{statement}
-use Rattle.alike.proofs.put_keys.Tie as tie
+use Rattle.surround.proofs.put_keys.Statement.{statement}
+use Rattle.surround.proofs.put_keys.Tie as tie
 
 abbrev Inv-loop : tie.InvT-loop
 Inv-loop reg n m cs way from keys₀ k₀ keys k = (k ≤ m) × (length keys ≡ length keys₀) × Writes keys₀ keys from k (λ j. keyOf way cs (linkOf (registerIn reg) j))

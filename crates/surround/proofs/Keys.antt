@@ -22,9 +22,9 @@ use Rattle.theory.proofs.NumberLaws.{getD-below, count-le}
 use Rattle.theory.proofs.OneLaws.{way-tells}
 use Rattle.promise.proofs.Access.{items-at, links-at, readable}
 use Rattle.rows.specs.Rows.{hits, often}
-use Rattle.alike.specs.Step.{OfClasses, keyOf}
+use Rattle.surround.specs.Surroundings.{OfClasses, keyOf}
 use Rattle.register.specs.Told.{OfItems, OfRegister}
-use Rattle.alike.proofs.Words.{way-below}
+use Rattle.surround.proofs.Words.{way-below}
 
 -- ---- what an accepted register has
 

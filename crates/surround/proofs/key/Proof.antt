@@ -1,10 +1,10 @@
 -- The parts of the key are what the accessors say of the link.
-use Rattle.alike.proofs.Keys.{key-made}
+use Rattle.surround.proofs.Keys.{key-made}
 use native.Mathlib.Omega.{arith}
 use mathlib.Core.Path.{_∙_}
 use borrow.Author.Needs.{needs}
-use Rattle.alike.proofs.key.Statement.{statement}
-use Rattle.alike.proofs.key.Tie as tie
+use Rattle.surround.proofs.key.Statement.{statement}
+use Rattle.surround.proofs.key.Tie as tie
 
 near-requires : tie.Need-near-requires
 near-requires c κs = search needs

@@ -6,10 +6,10 @@ use Prim.Native.Nat.{ℕ, _+_, _*_}
 use lib.ListN.{drop}
 use Rattle.order.proofs.Laws.{sorted-up}
 use Rattle.register.proofs.Laws.{limits}
-use Rattle.alike.proofs.Laws.{rows-written, starts-written}
+use Rattle.surround.proofs.Laws.{rows-written, starts-written}
 use borrow.Author.Needs.{needs}
-use Rattle.alike.proofs.item_rows.Statement.{statement}
-use Rattle.alike.proofs.item_rows.Tie as tie
+use Rattle.surround.proofs.item_rows.Statement.{statement}
+use Rattle.surround.proofs.item_rows.Tie as tie
 
 put-keys-requires : tie.Need-put-keys-requires
 put-keys-requires c κs = search needs
