@@ -8,7 +8,7 @@
  *     if (length == -HESTOVANE_REFUSED_LINK) ..
  *
  * A pointer may be null where its length is 0. What is read may not overlap out. The calls keep nothing between them and may
- * run in several threads at once. A call takes up to 170 KiB of stack (measured on aarch64): lend its thread 256 KiB. */
+ * run in several threads at once. A call takes up to 175 KiB of stack (measured on aarch64): lend its thread 256 KiB. */
 #ifndef HESTOVANE_H
 #define HESTOVANE_H
 

@@ -71,8 +71,8 @@
 //! its folder in the environment variable `HESTOVANE_LIB_DIR`. An archive that answers as no call
 //! does is not this library, and the crate panics rather than hand its answer on.
 //!
-//! A call takes up to 170 KiB of stack, and not much less for a small register: 170 KiB for
-//! [`check`] and [`Summary::read`], 145 for [`condense`], [`ask_summary`] and [`list`], 80 for
+//! A call takes up to 175 KiB of stack, and not much less for a small register: 175 KiB for
+//! [`check`] and [`Summary::read`], 145 for [`condense`], [`ask_summary`] and [`list`], 110 for
 //! [`ask_register`], measured on aarch64.
 //! Threads have 2 MiB unless told otherwise; lend one that calls in here 256 KiB or more. With too
 //! little the process ends with a stack overflow, as it does in Rust's own code. The calls keep

@@ -1,5 +1,5 @@
 -- What the writer of a summary is handed, and what a call that fills a lent buffer gives: "A success returns the length written", "bytes
--- past that length stay". Leans on meaning's Answers and on alike's rows.
+-- past that length stay". Leans on meaning's Answers and on surround's rows.
 use mathlib.Core.Path.{_≡_}
 use mathlib.Core.List.{List}
 use Prim.Native.Nat.{ℕ, _≤_}
