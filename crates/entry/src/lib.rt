@@ -1,5 +1,5 @@
 // An entry of a question: four bytes read as one of six kinds, or malformed; and the literal, asked of an item's marks. Leans on
-// meaning for the kinds and on files for the table of entries.
+// meaning for the kinds and the table of entries.
 use meaning::Direction;
 use meaning::Kind;
 ghost use mathlib.Core.Path.{_≡_};

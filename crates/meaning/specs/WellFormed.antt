@@ -1,5 +1,5 @@
 -- Which registers are accepted and which summaries are well formed, as far as their pictures can tell: numbers 2, 3, 4 and 6 but for
--- what only bytes can have wrong (files: RegisterFile, SummaryFile). Leans on Register and Summary.
+-- what only bytes can have wrong (RegisterFile, SummaryFile). Leans on Register and Summary.
 use Prim.Native.Nat.{ℕ, _+_, _*_}
 use mathlib.Core.Bool.{Bool, _&&_, Bool·beq}
 use lib.ListN.{length}

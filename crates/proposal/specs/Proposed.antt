@@ -1,4 +1,4 @@
--- What the parts of the check are handed, and the keys by which links and class links are held against one another. Leans on files'
+-- What the parts of the check are handed, and the keys by which links and class links are held against one another. Leans on meaning's
 -- SummaryFile and on wellformed's Keys.
 use Prim.Native.Nat.{ℕ, _+_, _*_, _≤_, _<_}
 use mathlib.Core.Path.{_≡_}

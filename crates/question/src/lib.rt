@@ -1,5 +1,5 @@
 // A question: the tree that stands at an entry, and the whole judged, with number 5 where it is malformed. Leans on entry for
-// what is read of four bytes, on meaning for the kinds and on files for the refusals.
+// what is read of four bytes, and on meaning for the kinds and the refusals.
 use entry::Reading;
 use meaning::Kind;
 use meaning::Refusal;

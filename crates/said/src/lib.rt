@@ -1,4 +1,4 @@
-// What a call says: yes, no, or the refusal; and the same as one number for C. Leans on files for the refusals and the calls' answers.
+// What a call says: yes, no, or the refusal; and the same as one number for C. Leans on meaning for the refusals and the calls' answers.
 use meaning::Refusal;
 ghost use mathlib.Core.Path.{_≡_};
 ghost use Rattle.meaning.specs.Refusals.{numberOf};
