@@ -40,8 +40,8 @@ use Rattle.question.proofs.Laws.{reads-first, forward, parsed-true, parsed-lite
 use Rattle.question.proofs.Steps.{Two}
 use Rattle.memo.specs.Kept.{turned, any, decides, tell, slot}
 use Rattle.memo.proofs.Laws.{joins, decided, undecided, operands, recalled-so, remembers-kept}
-use Rattle.wellformed.proofs.Laws.{well-file, sized-file, groups-file}
-use Rattle.wellformed.proofs.Match.{row-at}
+use Rattle.header.proofs.File.{well-file, sized-file, groups-file}
+use Rattle.matching.proofs.Match.{row-at}
 use Rattle.consult.specs.declared.Counted.{Counted}
 use Rattle.consult.specs.declared.Counted.the-variants.{Sum}
 use Rattle.window.specs.Own.{Own}

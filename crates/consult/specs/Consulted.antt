@@ -21,7 +21,7 @@ use Rattle.question.specs.declared.Filled.{Filled}
 use Rattle.question.specs.declared.Filled.the-variants.{Done}
 use Rattle.question.specs.Read.{Parsed}
 use Rattle.memo.specs.Kept as kept
-use Rattle.wellformed.specs.Keys.{Keyed}
+use Rattle.matching.specs.Keys.{Keyed}
 use Rattle.consult.specs.declared.Counted.{Counted}
 use Rattle.consult.specs.declared.Counted.the-variants.{Sum, Refused}
 

@@ -15,7 +15,7 @@ ghost use Prim.Native.Nat.{ℕ, _+_, _≤_, _<_};
 ghost use lib.ListN.{length, getD};
 ghost use Rattle.meaning.specs.Summary.{lowestClass};
 ghost use Rattle.meaning.specs.SummaryFile.{summaryIn, wellFormedFile};
-ghost use Rattle.wellformed.specs.Keys.{Keyed};
+ghost use Rattle.matching.specs.Keys.{Keyed};
 ghost use Rattle.consult.specs.Consulted.{Consulted, Holds, Counts, Answers, Remembers};
 ghost use Rattle.consult.specs.Consulted as consulted;
 

@@ -23,11 +23,11 @@ use Rattle.theory.proofs.CountLaws.{those-same}
 use Rattle.summary.proofs.Laws.{size-numbers}
 use Rattle.condense.specs.Written.{Gives}
 use Rattle.condense.specs.declared.Wrote.the-variants as writes
-use Rattle.wellformed.proofs.Laws.{sized-file}
+use Rattle.header.proofs.File.{sized-file}
 use Rattle.listed.proofs.Laws.{at-most, mapped}
 use Rattle.question.specs.Read as read
 use Rattle.question.proofs.Laws.{verdict-accepted}
-use Rattle.wellformed.specs.Keys.{Keyed}
+use Rattle.matching.specs.Keys.{Keyed}
 use Rattle.hestovane.specs.Readied.{Readied}
 use Rattle.hestovane.specs.Short.{Short}
 

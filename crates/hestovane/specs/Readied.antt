@@ -8,7 +8,7 @@ use lib.ListN.{length}
 use Rattle.meaning.specs.Question.{Question, depth, threshold}
 use Rattle.meaning.specs.QuestionFile.{question}
 use Rattle.meaning.specs.SummaryFile.{summaryIn, wellFormedFile}
-use Rattle.wellformed.specs.Keys.{Keyed}
+use Rattle.matching.specs.Keys.{Keyed}
 
 -- a well-formed summary with the keys of its rows, and a well-formed question with its depth and its greatest threshold
 pub record Readied (s keys q : List ℕ) (d h : ℕ) : Type 0 where

@@ -13,7 +13,7 @@ use Rattle.meaning.specs.Summary.{classAt}
 use Rattle.meaning.specs.SummaryFile.{summaryIn, wellFormedFile}
 use Rattle.theory.proofs.CountLaws.{by-bool, each-every, every-at}
 use Rattle.theory.proofs.ShapeLaws.{well-parts, number-parts}
-use Rattle.wellformed.proofs.Laws.{well-file, sized-file}
+use Rattle.header.proofs.File.{well-file, sized-file}
 
 module _ (p : ℕ → Bool) where
   pub none-yet : those p 0 ≡ []

@@ -1,12 +1,16 @@
 -- A list read back place by place, and what writes from a place on come to. Leans on theory's CountLaws and on lib.Seq.
 use mathlib.Core.Path.{_≡_, refl, sym, ap, _∙_}
+use mathlib.Core.Bool.{Bool, true}
 use mathlib.Core.List.{List, [], _∷_, _++_}
 use Prim.Native.Nat.{ℕ, zero, suc, _+_, _-_, _*_, _≤_, _<_}
 use native.Mathlib.Omega.{arith}
+use borrow.Author.Tests.{eqb-true, eq-eqb}
+use lib.Dec.{eqb}
 use lib.ListN.{length, getD, take, set, length-set, length-append}
 use lib.Seq.{take-suc, getD-set-same, getD-set-other, ext-getD, length-take-le, getD-take}
-use Rattle.meaning.specs.Count.{tab}
-use Rattle.theory.proofs.CountLaws.{by-eq, by-bool, length-tab, getD-tab, tab-same}
+use Rattle.meaning.specs.Count.{tab, all, any, each}
+use Rattle.theory.proofs.CountLaws.{by-eq, by-bool, bool-iff, length-tab, getD-tab, tab-same, all-at, all-yes, any-at, each-every, each-yes, every-at, every-getD}
+use Rattle.theory.proofs.ShapeLaws.{any-place}
 use Rattle.lists.specs.Writes.{Writes}
 
 -- ---- a list, place by place
@@ -27,6 +31,30 @@ tab-more f m zero = let z : m + 0 ≡ m = omega arith in rw z (sym (mathlib.Core
 tab-more f m (suc n) =
     let z : m + suc n ≡ suc (m + n) = omega arith in
     rw z (ap (λ (l : List _). l ++ (f (m + n) ∷ [])) (tab-more f m n) ∙ mathlib.Core.List.append-assoc (tab f m) (tab (λ i. f (m + i)) n) (f (m + n) ∷ []))
+
+-- ---- tests of a list, place by place; numbers in a list that is made place by place
+
+pub each-places : {A : Type 0} (p : A → Bool) (d : A) (s : List A) → each p s ≡ all (λ i. p (getD s i d)) (length s)
+each-places p d s =
+    bool-iff _ _
+    (λ e. all-yes _ (length s) (λ i u. at p d s i u e))
+    (λ e. from p d s (λ i u. all-at _ (length s) i u e))
+  where
+    at : {A : Type 0} (p : A → Bool) (d : A) (s : List A) (i : ℕ) → i < length s → each p s ≡ true → p (getD s i d) ≡ true
+    at p d s i u e = every-at (λ a. p a ≡ true) d s (each-every p s e (λ a h. h)) i u
+
+    from : {A : Type 0} (p : A → Bool) (d : A) (s : List A) → ((i : ℕ) → i < length s → p (getD s i d) ≡ true) → each p s ≡ true
+    from p d s h = each-yes p s (every-getD (λ a. p a ≡ true) d s h) (λ a e. e)
+
+pub in-tab : (f : ℕ → ℕ) (n v i : ℕ) → i < n → f i ≡ v → any (eqb v) (tab f n) ≡ true
+in-tab f n v i h e =
+    any-at (eqb v) 0 (tab f n) i (rw (length-tab f n) h) (rw (getD-tab f 0 n i h) (eq-eqb v (f i) (sym e)))
+
+pub of-tab : (f : ℕ → ℕ) (n v : ℕ) → any (eqb v) (tab f n) ≡ true → (i : ℕ) × (i < n) × (f i ≡ v)
+of-tab f n v e =
+    let r = any-place (eqb v) 0 (tab f n) e in
+    let h : r .0 < n = rw (length-tab f n) at (r .1) in
+    (r .0, h, sym (getD-tab f 0 n (r .0) h) ∙ sym (eqb-true v (getD (tab f n) (r .0) 0) (r .2)))
 
 -- ---- writing
 

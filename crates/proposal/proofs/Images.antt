@@ -18,8 +18,7 @@ use Rattle.theory.proofs.ShapeLaws.{any-place, link-in, well-parts, number-part
 use Rattle.theory.proofs.MatchLaws.{joins-parts, joins-make}
 use Rattle.theory.proofs.OneLaws.{three, order-parts}
 use Rattle.seek.specs.Keys.{sameMembers}
-use Rattle.wellformed.proofs.Laws.{each-places}
-use Rattle.wellformed.proofs.Match.{in-tab, of-tab}
+use Rattle.lists.proofs.Laws.{each-places, in-tab, of-tab}
 use Rattle.proposal.specs.Proposed.{keyBy}
 use Rattle.proposal.proofs.Laws.{all-same}
 

@@ -21,8 +21,8 @@ use Rattle.meaning.specs.SummaryFile.{summaryIn, exact, wellFormedFile}
 use Rattle.theory.proofs.CountLaws.{by-bool, by-eq, no, bool-iff, all-yes, all-at, length-tab}
 use Rattle.theory.proofs.ShapeLaws.{well-parts, well-shaped}
 use Rattle.promise.proofs.Promise.{in-range, size-parts}
-use Rattle.wellformed.specs.Keys.{Keyed}
-use Rattle.wellformed.proofs.Laws.{groups-few, not-exact, when-exact}
+use Rattle.matching.specs.Keys.{Keyed}
+use Rattle.header.proofs.File.{groups-few, not-exact, when-exact}
 use Rattle.proposal.specs.Proposed.{Proposed, Searched}
 
 -- ---- a well-formed file

@@ -18,7 +18,7 @@ use Rattle.theory.proofs.ShapeLaws.{well-parts, number-parts}
 use Rattle.theory.proofs.OneLaws.{RowFine, row-fine, order-parts, way-small}
 use Rattle.seek.specs.Keys.{Stands}
 use Rattle.surround.specs.Surroundings.{wordOf}
-use Rattle.wellformed.specs.Keys.{rowKeys}
+use Rattle.matching.specs.Keys.{rowKeys}
 use Rattle.proposal.specs.Proposed.{Searched}
 use Rattle.proposal.specs.Rows.{classRows, sameWords}
 use Rattle.proposal.proofs.Laws.{all-same}

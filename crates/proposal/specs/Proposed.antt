@@ -9,7 +9,7 @@ use Rattle.meaning.specs.Register.{Link}
 use Rattle.meaning.specs.Summary.{classOf, classAt}
 use Rattle.meaning.specs.WellFormed.{wellFormed}
 use Rattle.meaning.specs.SummaryFile.{summaryIn, exact}
-use Rattle.wellformed.specs.Keys.{rowKeys}
+use Rattle.matching.specs.Keys.{rowKeys}
 
 -- a well-formed summary with n items in its map, and the limits that follow
 pub record Proposed (s : List ℕ) (n : ℕ) : Type 0 where

@@ -21,7 +21,7 @@ ghost use Rattle.meaning.specs.SummaryFile.{summaryIn, exact, wellFormedFile};
 ghost use Rattle.register.specs.Told.{OfItems, OfRegister};
 ghost use Rattle.reader.specs.Sized.{edgeOf, HasRow};
 ghost use Rattle.surround.specs.Surroundings.{wordOf};
-ghost use Rattle.wellformed.specs.Keys.{Keyed};
+ghost use Rattle.matching.specs.Keys.{Keyed};
 ghost use Rattle.proposal.specs.Proposed.{Proposed, Searched, Started, keyBy};
 ghost use Rattle.proposal.specs.Rows.{classRows, sameWords};
 

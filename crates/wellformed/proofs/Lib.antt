@@ -1,4 +1,2 @@
 pub mod Laws
 pub mod Loops
-pub mod Match
-pub mod Parts

@@ -1,79 +1,21 @@
--- The conditions of "well formed" place by place, as loops test them. Leans on theory's CountLaws and on lists.
+-- Rows and classes place by place, as loops test them. Leans on theory's CountLaws and on lists.
 use mathlib.Core.Path.{_≡_, refl, sym, ap, subst, _∙_}
 use mathlib.Core.Bool.{Bool, true, false, _&&_}
-use mathlib.Core.List.{List, _++_}
-use Prim.Native.Nat.{ℕ, zero, suc, _+_, _*_, _≤_, _<_, max}
+use mathlib.Core.List.{List}
+use Prim.Native.Nat.{ℕ, suc, _+_, _≤_, _<_}
 use native.Mathlib.Omega.{arith}
-use native.Mathlib.Numerals.{add-one}
-use borrow.Author.Tests.{le-leb, lt-ltb, ltb-true, le-ltb, lt-leb, eq-eqb, eqb-true}
-use lib.Dec.{eqb, leb, ltb}
-use lib.ListN.{length, getD, take, set, length-set}
+use borrow.Author.Tests.{le-leb, lt-leb, eq-eqb, eqb-true}
+use lib.Dec.{eqb, leb}
+use lib.ListN.{length, getD, take, set}
 use lib.Seq.{getD-set-same, getD-set-other}
-use Rattle.meaning.specs.Count.{tab, all, any, each, ascends}
-use Rattle.meaning.specs.Register.{Link, noLink, near, far}
-use Rattle.meaning.specs.declared.Direction.{Direction}
-use Rattle.meaning.specs.declared.Direction.the-variants.{Outgoing, Incoming}
-use Rattle.meaning.specs.Summary.{Class, Row, Summary, noClass, noRow, classOf, rowOf, classAt}
-use Rattle.meaning.specs.WellFormed.{way, rowKey, linkIn, linkKey, classIn, rowIn, numbers, groupsUsed, rowsMatch}
-use Rattle.theory.proofs.CountLaws.{by-bool, by-eq, no, and-inv, and-yes, bool-iff, all-yes, all-at, all-no, all-and, past, ascends-tab, any-at, length-tab, getD-tab, tab-same}
+use Rattle.meaning.specs.Count.{all, each, ascends}
+use Rattle.meaning.specs.Summary.{Summary, noClass, noRow, classOf, rowOf}
+use Rattle.meaning.specs.WellFormed.{rowKey, classIn, rowIn, groupsUsed}
+use Rattle.theory.proofs.CountLaws.{by-bool, by-eq, no, and-inv, and-yes, bool-iff, all-yes, all-at, all-no, all-and, past, ascends-tab, any-at, tab-same}
 use Rattle.theory.proofs.ShapeLaws.{any-place}
-use Rattle.lists.specs.Writes.{Writes}
-use Rattle.lists.proofs.Laws.{front, places, two-written}
-use Rattle.seek.specs.Keys.{sameMembers}
-use Rattle.wellformed.specs.Keys.{keyFor, rowKeys, askedKey, askedKeys, most, Keyed}
-use Rattle.wellformed.proofs.Laws.{each-places, groups-few}
-use Rattle.wellformed.proofs.Match.{rows-matched}
-
--- ---- the map
-
-most-above : (f : ℕ → ℕ) (n i : ℕ) → i < n → f i ≤ most f n
-unfolding most
-most-above f zero i h = absurd (omega arith)
-most-above f (suc n) i h = by-eq i n (λ e. rw e (omega arith)) (λ e. omega (arith, most-above f n i (omega arith)))
-
-most-below : (f : ℕ → ℕ) (n c : ℕ) → 0 < c → ((i : ℕ) → i < n → f i < c) → most f n < c
-unfolding most
-most-below f zero c h u = h
-most-below f (suc n) c h u = omega (arith, u n (omega arith), most-below f n c h (λ i v. u i (omega arith)))
-
-module _ (f : ℕ → ℕ) where
-  pub most-none : 0 ≡ most f 0
-  unfolding most
-  most-none = refl
-
-  -- the number at hand is greater, or not
-  pub most-up : (n top v : ℕ) → top ≡ most f n → v ≡ f n → top < v → v ≡ most f (n + 1)
-  unfolding most
-  most-up n top v e q h = rw (add-one n) (omega arith)
-
-  pub most-stays : (n top v : ℕ) → top ≡ most f n → v ≡ f n → v ≤ top → top ≡ most f (n + 1)
-  unfolding most
-  most-stays n top v e q h = rw (add-one n) (omega arith)
-
-module _ (S : Summary) where
-  map-by : each (λ k. ltb k (length (S .classes))) (S .map) ≡ all (λ x. ltb (classAt S x) (length (S .classes))) (length (S .map))
-  unfolding classAt
-  map-by = each-places (λ k. ltb k (length (S .classes))) 0 (S .map)
-
-  -- an empty map; else its numbers are classes exactly when the greatest is
-  pub map-none : length (S .map) ≡ 0 → true ≡ each (λ k. ltb k (length (S .classes))) (S .map)
-  map-none e = sym (map-by ∙ all-yes _ (length (S .map)) (λ x h. absurd (omega arith)))
-
-  map-most : (f : ℕ → ℕ) → ((x : ℕ) → x < length (S .map) → classAt S x ≡ f x) → 0 < length (S .map)
-      → ltb (most f (length (S .map))) (length (S .classes)) ≡ each (λ k. ltb k (length (S .classes))) (S .map)
-  map-most f e h =
-      bool-iff _ _
-      (λ t.
-      let u = ltb-true (most f (length (S .map))) (length (S .classes)) t in
-      map-by ∙ all-yes _ (length (S .map)) (λ x v. lt-ltb (classAt S x) (length (S .classes)) (omega (arith, e x v, most-above f (length (S .map)) x v))))
-      (λ t.
-      let u : (x : ℕ) → x < length (S .map) → f x < length (S .classes) =
-      λ x v. omega (arith, e x v, ltb-true (classAt S x) (length (S .classes)) (all-at _ (length (S .map)) x v (sym map-by ∙ t))) in
-      lt-ltb (most f (length (S .map))) (length (S .classes)) (most-below f (length (S .map)) (length (S .classes)) (omega (arith, u 0 h)) u))
-
-  pub map-judged : (f : ℕ → ℕ) (n c top : ℕ) → n ≡ length (S .map) → c ≡ length (S .classes) → top ≡ most f n
-      → ((x : ℕ) → x < length (S .map) → classAt S x ≡ f x) → (n ≡ 0 → ⊥) → ltb top c ≡ each (λ k. ltb k (length (S .classes))) (S .map)
-  map-judged f n c top e q t u h = rw (t, e, q) (map-most f u (omega (arith, e, h)))
+use Rattle.lists.proofs.Laws.{front, places, each-places}
+use Rattle.header.proofs.File.{groups-few}
+use Rattle.matching.specs.Keys.{rowKeys}
 
 -- ---- the rows
 
@@ -125,19 +67,6 @@ module _ (S : Summary) where
       by-eq i j
       (λ q. rw q (getD-set-same keys j v 0 h ∙ e))
       (λ q. getD-set-other keys j i v 0 q ∙ k i (omega arith))
-
-  pub keys-rise : ascends rowKey (S .rows) ≡ true → ascends (λ k. k) (rowKeys S) ≡ true
-  unfolding rowKeys rowOf
-  keys-rise e =
-      ascends-tab (λ k. k) key (length (S .rows))
-      ∙ sym (ascends-tab rowKey (λ j. getD (S .rows) j noRow) (length (S .rows)))
-      ∙ ap (ascends rowKey) (places noRow (S .rows)) ∙ e
-
-  pub keyed-no : (keys : List ℕ) → Keyed false S keys
-  keyed-no keys = record { kept = λ e. no {t = false} e refl }
-
-pub keyed-as : (S : Summary) (keys : List ℕ) {s : Bool} (t : Bool) → s ≡ true → Keyed s S keys → Keyed t S keys
-keyed-as S keys t e k = record { kept = λ u. k .kept e }
 
 -- ---- the classes
 
@@ -192,18 +121,3 @@ module _ (S : Summary) where
       sym (by-bool (each (classIn S) (S .classes) && groupsUsed S)
       (λ e. absurd (omega (arith, groups-few S (and-inv (each (classIn S) (S .classes)) (groupsUsed S) e .1))))
       (λ e. e))
-
--- ---- rows and class links
-
--- the keys that the code holds against one another
-pub match-by : (S : Summary) → numbers S ≡ true → S .groups ≤ 1024 → (r : ℕ) (keys asked asked′ t : List ℕ) → r ≡ length (S .rows) → Keyed true S keys → (e : ℕ) → e ≡ length (S .links) →
-    e + e ≤ length t → Writes t asked 0 (length (S .links)) (askedKey S Outgoing) → Writes asked asked′ e (length (S .links)) (askedKey S Incoming) → sameMembers (take r keys) (take (2 * e) asked′) ≡ rowsMatch S
-unfolding askedKeys
-match-by S fine few r keys asked asked′ t er k e ee h w x =
-    let a : take r keys ≡ rowKeys S = ap (λ (n : ℕ). take n keys) er ∙ k .kept refl in
-    let y : Writes asked asked′ (length (S .links)) (length (S .links)) (askedKey S Incoming) = subst (λ (n : ℕ). Writes asked asked′ n (length (S .links)) (askedKey S Incoming)) ee x in
-    let b : take (2 * e) asked′ ≡ askedKeys S = ap (λ (n : ℕ). take (2 * n) asked′) ee ∙ two-written t asked asked′ (length (S .links)) (askedKey S Outgoing) (askedKey S Incoming) (omega (arith, ee)) w y in
-    rw (a, b) (rows-matched S fine (omega arith))
-
-pub keyed-rises : (S : Summary) (r : ℕ) (keys : List ℕ) → r ≡ length (S .rows) → Keyed true S keys → ascends rowKey (S .rows) ≡ true → ascends (λ k. k) (take r keys) ≡ true
-keyed-rises S r keys er k e = let a : take r keys ≡ rowKeys S = ap (λ (n : ℕ). take n keys) er ∙ k .kept refl in rw a (keys-rise S e)

@@ -13,7 +13,7 @@ use Rattle.meaning.specs.Count.{seek}
 use Rattle.meaning.specs.Summary.{Summary, classOf, lowestClass}
 use Rattle.meaning.specs.WellFormed.{wellFormed}
 use Rattle.meaning.specs.SummaryFile.{summaryIn, wellFormedFile}
-use Rattle.wellformed.proofs.Laws.{well-file, groups-file}
+use Rattle.header.proofs.File.{well-file, groups-file}
 use Rattle.theory.proofs.CountLaws.{by-eq, seek-from}
 use Rattle.theory.proofs.ShapeLaws.{well-shaped}
 

@@ -19,10 +19,10 @@ use Rattle.theory.proofs.CountLaws.{by-bool, and-inv, and-yes, getD-tab, sum-sa
 use Rattle.theory.proofs.ShapeLaws.{well-parts, same-direction, own-direction}
 use Rattle.theory.proofs.OneLaws.{order-parts, way-tells, way-small}
 use Rattle.seek.specs.Keys.{Stands}
-use Rattle.wellformed.specs.Keys.{rowKeys, Keyed}
-use Rattle.wellformed.proofs.Laws.{well-file, sized-file, groups-file}
-use Rattle.wellformed.proofs.Match.{row-at}
-use Rattle.wellformed.proofs.Loops.{keyed-rises}
+use Rattle.matching.specs.Keys.{rowKeys, Keyed}
+use Rattle.header.proofs.File.{well-file, sized-file, groups-file}
+use Rattle.matching.proofs.Match.{row-at}
+use Rattle.matching.proofs.Laws.{keyed-rises}
 use Rattle.window.specs.Own.{Own}
 
 -- a row's class and way side by side, which its key begins with

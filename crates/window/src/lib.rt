@@ -10,7 +10,7 @@ ghost use lib.ListN.{length, getD};
 ghost use Rattle.meaning.specs.Summary.{lowestClass};
 ghost use Rattle.meaning.specs.WellFormed as meant;
 ghost use Rattle.meaning.specs.SummaryFile.{summaryIn, wellFormedFile};
-ghost use Rattle.wellformed.specs.Keys.{Keyed};
+ghost use Rattle.matching.specs.Keys.{Keyed};
 ghost use Rattle.window.specs.Own.{Own};
 
 // The rows from `low` up to `high`.

@@ -13,7 +13,7 @@ use Rattle.entry.specs.Entries.{entryAt}
 use Rattle.entry.proofs.Laws.{is-entry, within-entry, literal-back, literal-read, least-read}
 use Rattle.question.proofs.Steps.{Two, two-of}
 use Rattle.reader.specs.Sized.{HasRow}
-use Rattle.wellformed.proofs.Laws.{well-file, sized-file}
+use Rattle.header.proofs.File.{well-file, sized-file}
 use Rattle.consult.specs.Consulted.{Holds, Remembers}
 use Rattle.consult.proofs.Laws.{holds-none, holds-true, holds-literal, holds-not, holds-first, holds-second, holds-unspanned, holds-least, Summed, summed-none, summed-all, counts-unasked, one-summed, sum-most, added-most, row-grouped, group-few, lowest-asked, not-refused, recalled-holds, holds-kept}
 use Rattle.memo.proofs.Laws.{spans-on}

@@ -4,7 +4,7 @@ use mathlib.Core.Path.{_≡_, refl}
 use Prim.Native.Nat.{_-_, _≤_, _<_}
 use lib.ListN.{length, length-set}
 use Rattle.meaning.specs.SummaryFile.{summaryIn}
-use Rattle.wellformed.proofs.Laws.{well-file, sized-file}
+use Rattle.header.proofs.File.{well-file, sized-file}
 use Rattle.consult.specs.Consulted.{Remembers}
 use Rattle.consult.proofs.Laws.{Answered, one-answered, not-answered}
 use borrow.Author.Needs.{needs}

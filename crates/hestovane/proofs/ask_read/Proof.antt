@@ -3,7 +3,7 @@ use native.Mathlib.Omega.{arith}
 use mathlib.Core.Path.{sym, ap, _∙_}
 use Rattle.meaning.specs.Answers.{word}
 use Rattle.question.proofs.Laws.{parsed-question}
-use Rattle.wellformed.proofs.Laws.{well-file}
+use Rattle.header.proofs.File.{well-file}
 use Rattle.listed.proofs.Laws.{mapped}
 use Rattle.hestovane.proofs.Laws.{never-refused, same-word}
 use Rattle.hestovane.proofs.OnSummary.{beyond-by, ask-seven, ask-eight, ask-at, at-class}

@@ -4,7 +4,7 @@ use borrow.Author.Tests.{not-true, not-false}
 use Rattle.meaning.specs.Answers.{number}
 use Rattle.question.specs.Read.{told}
 use Rattle.question.proofs.Laws.{verdict-accepted, verdict-refused}
-use Rattle.wellformed.proofs.Loops.{keyed-as}
+use Rattle.matching.proofs.Laws.{keyed-as}
 use Rattle.hestovane.proofs.OnSummary.{ask-six, ask-five, readied}
 use borrow.Author.Needs.{needs}
 use Rattle.hestovane.proofs.ask_summary.Statement.{statement}

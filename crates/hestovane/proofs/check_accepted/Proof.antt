@@ -1,7 +1,7 @@
 -- What the check says, or 6.
 use mathlib.Core.Path.{sym, ap, _∙_}
 use Rattle.meaning.specs.Answers.{word}
-use Rattle.wellformed.proofs.Loops.{keyed-as}
+use Rattle.matching.proofs.Laws.{keyed-as}
 use Rattle.hestovane.proofs.Laws.{check-six, check-said}
 use borrow.Author.Needs.{needs}
 use Rattle.hestovane.proofs.check_accepted.Statement.{statement}

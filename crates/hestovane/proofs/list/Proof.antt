@@ -3,7 +3,7 @@ use mathlib.Core.Path.{sym, ap, _∙_}
 use borrow.Author.Tests.{not-true, not-false}
 use Rattle.question.specs.Read.{told}
 use Rattle.question.proofs.Laws.{verdict-accepted, verdict-refused}
-use Rattle.wellformed.proofs.Loops.{keyed-as}
+use Rattle.matching.proofs.Laws.{keyed-as}
 use Rattle.meaning.specs.Answers
 use Rattle.hestovane.proofs.Laws.{gives-this}
 use Rattle.hestovane.proofs.OnSummary.{list-six, list-five, readied, gives-refused}

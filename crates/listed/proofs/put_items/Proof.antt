@@ -7,7 +7,7 @@ use lib.ListN.{length, getD, take}
 use Rattle.meaning.specs.Count.{those}
 use Rattle.meaning.specs.Summary.{classAt}
 use Rattle.meaning.specs.SummaryFile.{summaryIn}
-use Rattle.wellformed.proofs.Laws.{well-file, sized-file}
+use Rattle.header.proofs.File.{well-file, sized-file}
 use Rattle.listed.proofs.Laws.{none-yet, at-most, class-low, next-named}
 use borrow.Author.Needs.{needs}
 use Rattle.listed.proofs.put_items.Statement.{statement}

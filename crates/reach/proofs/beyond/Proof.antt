@@ -1,5 +1,5 @@
 -- The depth, then the threshold.
-use Rattle.wellformed.proofs.Laws.{well-file}
+use Rattle.header.proofs.File.{well-file}
 use Rattle.reach.proofs.Laws.{too-deep, by-threshold}
 use borrow.Author.Needs.{needs}
 use Rattle.reach.proofs.beyond.Statement.{statement}

@@ -2,8 +2,9 @@
 use mathlib.Core.Path.{sym, _∙_}
 use borrow.Author.Tests.{not-true, not-false}
 use Rattle.meaning.specs.SummaryFile.{summaryIn}
-use Rattle.wellformed.proofs.Laws.{not-exact, when-exact, no-sizes, no-range, ranged, sized-of}
-use Rattle.wellformed.proofs.Loops.{keyed-no}
+use Rattle.header.proofs.File.{not-exact, when-exact, sized-of}
+use Rattle.wellformed.proofs.Laws.{no-sizes, no-range, ranged}
+use Rattle.matching.proofs.Laws.{keyed-no}
 use borrow.Author.Needs.{needs}
 use Rattle.wellformed.proofs.judge.Statement.{statement}
 use Rattle.wellformed.proofs.judge.Tie as tie

@@ -2,7 +2,7 @@
 use native.Mathlib.Omega.{arith}
 use mathlib.Core.Path.{_∙_}
 use Rattle.reader.proofs.Laws.{laid}
-use Rattle.wellformed.proofs.Parts.{links-judged, room-for-links}
+use Rattle.wellformed.proofs.Laws.{links-judged, room-for-links}
 use borrow.Author.Needs.{needs}
 use Rattle.wellformed.proofs.links_fine.Statement.{statement}
 use Rattle.wellformed.proofs.links_fine.Tie as tie

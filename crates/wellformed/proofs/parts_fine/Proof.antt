@@ -2,7 +2,7 @@
 use mathlib.Core.Path.{sym, _∙_}
 use borrow.Author.Tests.{not-true, not-false}
 use Rattle.wellformed.proofs.Laws.{groups-low, rows-ascend, no-classes, no-rows, no-links, no-map, are-numbers, by-match}
-use Rattle.wellformed.proofs.Loops.{keyed-no, keyed-as}
+use Rattle.matching.proofs.Laws.{keyed-no, keyed-as}
 use borrow.Author.Needs.{needs}
 use Rattle.wellformed.proofs.parts_fine.Statement.{statement}
 use Rattle.wellformed.proofs.parts_fine.Tie as tie

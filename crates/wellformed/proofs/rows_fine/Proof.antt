@@ -6,12 +6,13 @@ use Prim.Native.Nat.{ℕ, _-_, _≤_, _<_}
 use lib.ListN.{length, getD, length-set}
 use Rattle.reader.specs.Sized.{HasRow}
 use Rattle.reader.proofs.Laws.{laid}
-use Rattle.wellformed.proofs.Parts.{row-read, key-read, row-room}
+use Rattle.fields.proofs.Laws.{row-read, key-read, row-room}
 use borrow.Author.Tests.{not-true, not-false}
 use borrow.Author.Count.{below-more}
 use Rattle.theory.proofs.CountLaws.{past}
 use Rattle.meaning.specs.SummaryFile.{summaryIn}
-use Rattle.wellformed.proofs.Loops.{key, rowRises, row-out, row-falls, row-rises, rows-all, past-none, past-next, keys-kept, keyed-no, key-set}
+use Rattle.wellformed.proofs.Loops.{key, rowRises, row-out, row-falls, row-rises, rows-all, past-none, past-next, keys-kept, key-set}
+use Rattle.matching.proofs.Laws.{keyed-no}
 use borrow.Author.Needs.{needs}
 use Rattle.wellformed.proofs.rows_fine.Statement.{statement}
 use Rattle.wellformed.proofs.rows_fine.Tie as tie

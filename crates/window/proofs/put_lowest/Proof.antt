@@ -4,7 +4,7 @@ use Prim.Native.Nat.{_-_, _≤_}
 use native.Mathlib.Omega.{arith}
 use lib.ListN.{length, length-set}
 use Rattle.meaning.specs.SummaryFile.{summaryIn}
-use Rattle.wellformed.proofs.Laws.{well-file}
+use Rattle.header.proofs.File.{well-file}
 use Rattle.window.proofs.Lowest.{Entered, none-entered, one-entered, all-entered, class-low}
 use borrow.Author.Needs.{needs}
 use Rattle.window.proofs.put_lowest.Statement.{statement}

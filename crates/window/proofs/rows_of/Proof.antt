@@ -1,7 +1,7 @@
 -- Two searches find the rows; the argument is `window`.
 use mathlib.Core.Path.{ap}
 use Prim.Native.Nat.{ℕ, _+_, _*_}
-use Rattle.wellformed.proofs.Laws.{well-file}
+use Rattle.header.proofs.File.{well-file}
 use Rattle.window.proofs.Together.{searchable, window}
 use borrow.Author.Needs.{needs}
 use Rattle.window.proofs.rows_of.Statement.{statement}
