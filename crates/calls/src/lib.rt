@@ -4,10 +4,10 @@
 use casework::dice::Dice;
 use casework::lent;
 use casework::line::Line;
-use condense::Wrote;
 use made_register::known;
 use made_register::made;
 use said::Said;
+use said::Wrote;
 ghost use Prim.Native.Nat.{_≤_};
 
 // The level i, the neighbour cap µ, the class cap ν.

@@ -1,5 +1,5 @@
--- The parts that the writer gathers are those of the summary of these groups and classes, within their limits; and a file that fits is
--- written whole. Leans on theory's limits, on alike's levels and on summary's laws of parts.
+-- The parts that the writer gathers are those of the summary of these groups and classes, within their limits. Leans on theory's limits,
+-- on alike's levels and on summary's laws of parts.
 use mathlib.Core.Path.{_≡_, refl, sym, subst, _∙_}
 use mathlib.Core.List.{List, _++_}
 use Prim.Native.Nat.{ℕ, _+_, _*_, _≤_, _<_, pred}
@@ -33,36 +33,7 @@ use Rattle.classes.specs.Counted.{Sorted}
 use Rattle.filed.specs.Copied.{Given, classRows}
 use Rattle.filed.proofs.Laws.{rows-long}
 use Rattle.edges.specs.Keys.{classLinks}
-use Rattle.condense.specs.Written.{Gives, Classed}
-use Rattle.condense.specs.declared.Wrote.{Wrote}
-use Rattle.condense.specs.declared.Wrote.the-variants.{Length, Refused}
-
--- ---- the file
-
-pub parts-long : (head classes : List ℕ) (c : ℕ) (rows : List ℕ) (r : ℕ) (edges : List ℕ) (e : ℕ) (map : List ℕ) (n room : ℕ) →
-    Parts head classes c rows r edges e map n room → length (pack put2 (numbers head classes c rows r edges e map n)) ≡ summarySize c r e n
-unfolding numbers
-parts-long head classes c rows r edges e map n room p =
-    let H = take 12 head in
-    let C = take (classFields * c) classes in
-    let O = take (4 * r) rows in
-    let E = take (3 * e) edges in
-    let M = take n map in
-    let h = length-take-le 12 head (p .heads) in
-    let k = length-take-le (classFields * c) classes (p .classes-there) in
-    let o = length-take-le (4 * r) rows (p .rows-there) in
-    let l = length-take-le (3 * e) edges (p .edges-there) in
-    let m = length-take-le n map (p .map-there) in
-    omega (arith, size-numbers (H ++ (C ++ (O ++ (E ++ M)))), length-append H (C ++ (O ++ (E ++ M))), length-append C (O ++ (E ++ M)), length-append O (E ++ M), length-append E M, h, k, o, l, m)
-
-module _ (d p : List ℕ) where
-  pub no-room : length d < length p → Gives (Refused Room) d d (into (length d) p)
-  unfolding into returned left
-  no-room h = let e : leb (length p) (length d) ≡ _ = lt-leb (length p) (length d) h in record { says = sym (rw e); leaves = sym (rw e) }
-
-  pub whole : (d′ : List ℕ) (k : ℕ) → k ≡ length p → length p ≤ length d → d′ ≡ sets d 0 p → Gives (Length k) d d′ (into (length d) p)
-  unfolding into returned
-  whole d′ k e h s = let f = le-leb (length p) (length d) h in record { says = rw (f, e); leaves = rw f (s ∙ sets-left d p h) }
+use Rattle.condense.specs.Classed.{Classed}
 
 -- ---- the parts
 
@@ -148,9 +119,6 @@ module _ (b : List ℕ) (n m µ ν g c : ℕ) (groups map starts words : List �
   bytes-are head classes rows edges r e h l o q = parts-bytes S head classes c rows r edges e map n h (rw (k .classes-are) l) o q refl
 
 -- ---- from the levels to the summary
-
-pub gives-same : (w : Wrote) (d d′ p q : List ℕ) → p ≡ q → Gives w d d′ (into (length d) p) → Gives w d d′ (into (length d) q)
-gives-same w d d′ p q e = subst (λ (p : List ℕ). Gives w d d′ (into (length d) p)) e
 
 module _ (b : List ℕ) (n m µ i ν : ℕ) (lower₀ lower upper₀ upper : List ℕ) (g c : ℕ) (starts words : List ℕ) (o : OfRegister b n m)
     (s : Reached (registerIn b) µ n i lower₀ lower upper₀ upper g c starts words) where

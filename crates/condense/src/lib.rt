@@ -1,22 +1,15 @@
 // A register condensed: its classes level by level, then the five parts of the summary, then the file. Leans on alike for the classes,
 // on classes, filed and edges for the parts, on summary for the file.
-use meaning::Refusal;
+use said::Wrote;
 ghost use Prim.Native.Nat.{_≤_};
 ghost use lib.ListN.{length, take};
 ghost use Rattle.meaning.specs.Condense.{summaryBy, summaryOf};
-ghost use Rattle.meaning.specs.Bytes.{put2, pack};
 ghost use Rattle.meaning.specs.RegisterFile.{registerIn};
-ghost use Rattle.meaning.specs.SummaryFile.{summaryBytes, summarySize};
+ghost use Rattle.meaning.specs.SummaryFile.{summaryBytes};
 ghost use Rattle.meaning.specs.Answers.{into};
 ghost use Rattle.register.specs.Told.{OfRegister};
-ghost use Rattle.summary.specs.Numbers.{numbers, Parts};
-ghost use Rattle.condense.specs.Written.{Gives, Classed};
-
-// The length written, or the refusal.
-pub enum Wrote {
-    Length(usize),
-    Refused(Refusal),
-}
+ghost use Rattle.said.specs.Written.{Gives};
+ghost use Rattle.condense.specs.Classed.{Classed};
 
 // "The classes of a summary are those of level i; its groups are those of level i − 1": 9, or its bytes.
 pub fn condense(reg: &[u8], n: usize, m: usize, i: u16, mu: u8, nu: u8, out: &mut [u8]) -> Wrote
@@ -88,30 +81,5 @@ fn put_summary(
         items: n as u16,
     };
     let head = summary::head(i, mu as u16, nu as u16, of);
-    file(out, &head, &classes, c, &rows, r, &edges, e, map, n)
-}
-
-// "9: output buffer shorter than the answer": no byte is written before it is known that all fit.
-fn file(
-    out: &mut [u8],
-    head: &[u16],
-    classes: &[u16],
-    c: usize,
-    rows: &[u16],
-    r: usize,
-    edges: &[u16],
-    e: usize,
-    map: &[u16],
-    n: usize,
-) -> Wrote
-    requires { ⌜ Parts (now head) (now classes) c (now rows) r (now edges) e (now map) n (summarySize c r e n) ⌝ }
-    ensures { λ w. ⌜ Gives w (now (out .entry)) (now (out .exit))
-        (into (length (now (out .entry))) (pack put2 (numbers (now (head .entry)) (now (classes .entry)) c (now (rows .entry)) r (now (edges .entry)) e (now (map .entry)) n))) ⌝ }
-{
-    let long = 24 + 8 * c + 8 * r + 6 * e + 2 * n;
-    if out.len() < long {
-        return Wrote::Refused(Refusal::Room);
-    }
-    summary::put_parts(out, head, classes, c, rows, r, edges, e, map, n);
-    Wrote::Length(long)
+    summary::file(out, &head, &classes, c, &rows, r, &edges, e, map, n)
 }

@@ -23,10 +23,10 @@ use Rattle.meaning.specs.Refusals.{numberOf}
 use Rattle.meaning.specs.declared.Refusal.{Refusal}
 use Rattle.meaning.specs.declared.Refusal.the-variants.{Range}
 use Rattle.theory.proofs.WellMade.{level-least}
-use Rattle.condense.specs.Written as written
-use Rattle.condense.specs.Written.{Gives}
-use Rattle.condense.specs.declared.Wrote.{Wrote}
-use Rattle.condense.specs.declared.Wrote.the-variants as writes
+use Rattle.said.specs.Written as written
+use Rattle.said.specs.Written.{Gives}
+use Rattle.said.specs.declared.Wrote.{Wrote}
+use Rattle.said.specs.declared.Wrote.the-variants as writes
 use Rattle.promise.proofs.Promise.{summary-most, in-range}
 use Rattle.promise.proofs.Access.{items-at, links-at, accepted-so, refused-so}
 use Rattle.question.specs.Read as read
@@ -35,7 +35,7 @@ use Rattle.register.specs.Told.{OfRegister}
 use Rattle.question.specs.declared.Asked.{Asked}
 use Rattle.question.specs.declared.Asked.the-variants as asks
 use Rattle.inquiry.specs.Known.{Whole, asked}
-use Rattle.hestovane.specs.Short.{Short}
+use Rattle.said.specs.Written.{Short}
 
 -- ---- the register
 
@@ -141,13 +141,6 @@ condense-short b room i µ ν = let p = summaryBytes (summaryOf i µ ν (registe
     go p h zero e false t = tt
     go p h (suc k) e s t = tt
 
-pub short-length : (w : Wrote) (k : ℕ) → w ≡ writes.Length k → Short (written.told w) → k ≤ 55320
-unfolding Short
-short-length w k e h = subst (λ (w : Wrote). Short (written.told w)) e h
-
 -- the bounds of what is in range
 pub range-low : (i µ ν : ℕ) → inRange i µ ν ≡ true → (1 ≤ i) × (µ ≤ 7) × (ν ≤ 15)
 range-low i µ ν e = let r = in-range i µ ν e in (level-least i µ ν e, r .1, r .2)
-
-pub gives-this : (w : Wrote) (d d′ : List ℕ) (a b : Answer) → a ≡ b → Gives w d d′ a → Gives w d d′ b
-gives-this w d d′ a b e = subst (λ (a : Answer). Gives w d d′ a) e

@@ -21,15 +21,15 @@ use Rattle.meaning.specs.Answers.{Answer, number, word, returned, left, into, b
 use Rattle.meaning.specs.Answers
 use Rattle.theory.proofs.CountLaws.{those-same}
 use Rattle.summary.proofs.Laws.{size-numbers}
-use Rattle.condense.specs.Written.{Gives}
-use Rattle.condense.specs.declared.Wrote.the-variants as writes
+use Rattle.said.specs.Written.{Gives}
+use Rattle.said.specs.declared.Wrote.the-variants as writes
 use Rattle.header.proofs.File.{sized-file}
 use Rattle.listed.proofs.Laws.{at-most, mapped}
 use Rattle.question.specs.Read as read
 use Rattle.question.proofs.Laws.{verdict-accepted}
 use Rattle.matching.specs.Keys.{Keyed}
 use Rattle.hestovane.specs.Readied.{Readied}
-use Rattle.hestovane.specs.Short.{Short}
+use Rattle.said.specs.Written.{Short}
 
 -- 7, as the code tests it
 pub beyond-by : (S : Summary) (t : Question) (d h : ℕ) → d ≡ depth t → h ≡ threshold t → ltb (S .level) d || ltb (S .nearCap + 1) h ≡ beyond S t

@@ -12,10 +12,10 @@ use Rattle.meaning.specs.Refusals.{numberOf}
 use Rattle.meaning.specs.declared.Refusal.{Refusal}
 use Rattle.meaning.specs.Answers.{Answer, Returned, number, word, size, returned, code, left, condense, check, askRegister, askSummary, list}
 use Rattle.promise.proofs.OneAnswer.{number-one}
-use Rattle.condense.specs.Written as written
-use Rattle.condense.specs.Written.{Gives}
-use Rattle.condense.specs.declared.Wrote.{Wrote}
-use Rattle.condense.specs.declared.Wrote.the-variants.{Length, Refused}
+use Rattle.said.specs.Written as written
+use Rattle.said.specs.Written.{Gives}
+use Rattle.said.specs.declared.Wrote.{Wrote}
+use Rattle.said.specs.declared.Wrote.the-variants.{Length, Refused}
 use Rattle.said.specs.Told.{told}
 use Rattle.said.specs.declared.Said.{Said}
 use Rattle.said.specs.declared.Said.the-variants.{Yes, No, Refused as Not}

@@ -1,12 +1,12 @@
 // The public calls. Each takes any input, judges it for itself and refuses with document 01's numbers in document 01's order; its
 // contract is an equation with the call's one definition in meaning's Answers. The exported functions give the same as one number.
-use condense::Wrote;
 use meaning::Refusal;
 use names::Item;
 use question::Asked;
 use question::Filled;
 use register::Judged;
 use said::Said;
+use said::Wrote;
 ghost use mathlib.Core.Path.{_≡_};
 ghost use Prim.Native.Nat.{_≤_};
 ghost use lib.ListN.{length, take};
@@ -15,12 +15,10 @@ ghost use Rattle.meaning.specs.Bytes.{put2, pack};
 ghost use Rattle.meaning.specs.Answers.{returned, code, left, into, askTree, askRegister, askSummary};
 ghost use Rattle.meaning.specs.Answers as answers;
 ghost use Rattle.register.specs.Told.{OfRegister};
-ghost use Rattle.condense.specs.Written as written;
-ghost use Rattle.condense.specs.Written.{Gives};
 ghost use Rattle.inquiry.specs.Known.{Whole};
 ghost use Rattle.hestovane.specs.Readied.{Readied};
-ghost use Rattle.hestovane.specs.Short.{Short};
 ghost use Rattle.said.specs.Told.{told};
+ghost use Rattle.said.specs.Written.{Gives};
 
 // Whether the question holds at the item of the register: "ask a register 1, 2, 3, 5, 8".
 pub fn ask_register(reg: &[u8], q: &[u8], item: u16) -> Said
@@ -188,30 +186,7 @@ fn list_read(
     };
     let mut named = [0u16; 1024];
     let r = listed::put_items(s, &answers, &mut named);
-    put_list(&named, r, out)
-}
-
-// "9: output buffer shorter than the answer", known before a byte is written; "A list is two bytes an item".
-fn put_list(named: &[u16], r: usize, out: &mut [u8]) -> Wrote
-    requires { ⌜ (r ≤ 1024) × (r ≤ length (now named)) ⌝ }
-    ensures { λ w. ⌜ Gives w (now (out .entry)) (now (out .exit)) (into (length (now (out .entry))) (pack put2 (take r (now (named .entry))))) ⌝ }
-{
-    if out.len() < 2 * r {
-        return Wrote::Refused(Refusal::Room);
-    }
-    wire::put_numbers(out, 0, named, r);
-    Wrote::Length(2 * r)
-}
-
-// The length written, or minus the refusal's number.
-fn measured(answer: Wrote) -> i32
-    requires { ⌜ Short (written.told answer) ⌝ }
-    ensures { λ r. ⌜ r ≡ code (written.told answer) ⌝ }
-{
-    match answer {
-        Wrote::Length(long) => long as i32,
-        Wrote::Refused(refusal) => said::minus(refusal),
-    }
+    listed::put_list(&named, r, out)
 }
 
 #[no_mangle]
@@ -219,7 +194,7 @@ pub extern "C" fn hestovane_condense(i: u16, mu: u16, nu: u16, reg: &[u8], out: 
     ensures { λ r. ⌜ r ≡ code (returned (answers.condense i mu nu (now (reg .entry)) (length (now (out .entry))))) ⌝ }
     ensures { λ _. ⌜ now (out .exit) ≡ left (answers.condense i mu nu (now (reg .entry)) (length (now (out .entry)))) (now (out .entry)) ⌝ }
 {
-    measured(condense(reg, i, mu, nu, out))
+    said::measured(condense(reg, i, mu, nu, out))
 }
 
 #[no_mangle]
@@ -248,5 +223,5 @@ pub extern "C" fn hestovane_list(s: &[u8], q: &[u8], out: &mut [u8]) -> i32
     ensures { λ r. ⌜ r ≡ code (returned (answers.list (now (s .entry)) (now (q .entry)) (length (now (out .entry))))) ⌝ }
     ensures { λ _. ⌜ now (out .exit) ≡ left (answers.list (now (s .entry)) (now (q .entry)) (length (now (out .entry)))) (now (out .entry)) ⌝ }
 {
-    measured(list(s, q, out))
+    said::measured(list(s, q, out))
 }

@@ -1,14 +1,19 @@
 // The items of a summary whose class passes, ascending and each once: "A list is two bytes an item". A class is asked once and not once an
-// item, so the answers come by class. Leans on reader for the map.
+// item, so the answers come by class. Leans on reader for the map and on wire for the bytes.
+use meaning::Refusal;
 use names::Item;
+use said::Wrote;
 ghost use mathlib.Core.Path.{_≡_};
 ghost use mathlib.Core.Bool.{true, false, cond};
 ghost use mathlib.Core.List.{[], _∷_, _++_};
-ghost use Prim.Native.Nat.{_+_, _<_};
+ghost use Prim.Native.Nat.{_+_, _≤_, _<_};
 ghost use lib.ListN.{length, getD, take};
 ghost use Rattle.meaning.specs.Count.{those};
 ghost use Rattle.meaning.specs.Summary.{classAt};
+ghost use Rattle.meaning.specs.Bytes.{put2, pack};
 ghost use Rattle.meaning.specs.SummaryFile.{summaryIn, wellFormedFile};
+ghost use Rattle.meaning.specs.Answers.{into};
+ghost use Rattle.said.specs.Written.{Gives};
 
 // How many they are; their numbers are left at the start of `out`.
 pub fn put_items(s: &[u8], answers: &[bool], out: &mut [u16]) -> usize
@@ -37,4 +42,16 @@ fn put_item(out: &mut [u16], r: usize, x: u16, named: bool) -> usize
         return r + 1;
     }
     r
+}
+
+// "9: output buffer shorter than the answer", known before a byte is written; "A list is two bytes an item".
+pub fn put_list(named: &[u16], r: usize, out: &mut [u8]) -> Wrote
+    requires { ⌜ (r ≤ 1024) × (r ≤ length (now named)) ⌝ }
+    ensures { λ w. ⌜ Gives w (now (out .entry)) (now (out .exit)) (into (length (now (out .entry))) (pack put2 (take r (now (named .entry))))) ⌝ }
+{
+    if out.len() < 2 * r {
+        return Wrote::Refused(Refusal::Room);
+    }
+    wire::put_numbers(out, 0, named, r);
+    Wrote::Length(2 * r)
 }

@@ -123,3 +123,21 @@ bytes-long S =
     let e = size-records edgeNumbers 3 (λ a. refl) (S .links) in
     ap length (sym (numbers-bytes S))
     ∙ omega (arith, size-numbers (summaryNumbers S), length-append C (O ++ (E ++ S .map)), length-append O (E ++ S .map), length-append E (S .map), c, r, e)
+
+-- ---- how long they are
+
+pub parts-long : (head classes : List ℕ) (c : ℕ) (rows : List ℕ) (r : ℕ) (edges : List ℕ) (e : ℕ) (map : List ℕ) (n room : ℕ) →
+    Parts head classes c rows r edges e map n room → length (pack put2 (numbers head classes c rows r edges e map n)) ≡ summarySize c r e n
+unfolding numbers
+parts-long head classes c rows r edges e map n room p =
+    let H = take 12 head in
+    let C = take (classFields * c) classes in
+    let O = take (4 * r) rows in
+    let E = take (3 * e) edges in
+    let M = take n map in
+    let h = length-take-le 12 head (p .heads) in
+    let k = length-take-le (classFields * c) classes (p .classes-there) in
+    let o = length-take-le (4 * r) rows (p .rows-there) in
+    let l = length-take-le (3 * e) edges (p .edges-there) in
+    let m = length-take-le n map (p .map-there) in
+    omega (arith, size-numbers (H ++ (C ++ (O ++ (E ++ M)))), length-append H (C ++ (O ++ (E ++ M))), length-append C (O ++ (E ++ M)), length-append O (E ++ M), length-append E M, h, k, o, l, m)

@@ -1,10 +1,15 @@
 // The summary file, its writing half. Every field of the file is a two-byte number, or two of them: so a file is a list of numbers in
 // five parts, header, classes, rows, class links, map, and each part is written by one loop. Leans on wire for the loop.
+use meaning::Refusal;
+use said::Wrote;
 ghost use mathlib.Core.Path.{_≡_};
 ghost use Prim.Native.Nat.{_+_, _*_, _≤_};
 ghost use lib.ListN.{length};
 ghost use lib.Seq.{sets};
 ghost use Rattle.meaning.specs.Bytes.{put2, pack};
+ghost use Rattle.meaning.specs.SummaryFile.{summarySize};
+ghost use Rattle.meaning.specs.Answers.{into};
+ghost use Rattle.said.specs.Written.{Gives};
 ghost use Rattle.summary.specs.Numbers.{Parts, numbers, headOf};
 
 // How many numbers a class record, a row and a class link have.
@@ -14,8 +19,33 @@ pub const ROW: usize = 4;
 
 pub const EDGE: usize = 3;
 
+// "9: output buffer shorter than the answer": no byte is written before it is known that all fit.
+pub fn file(
+    out: &mut [u8],
+    head: &[u16],
+    classes: &[u16],
+    c: usize,
+    rows: &[u16],
+    r: usize,
+    edges: &[u16],
+    e: usize,
+    map: &[u16],
+    n: usize,
+) -> Wrote
+    requires { ⌜ Parts (now head) (now classes) c (now rows) r (now edges) e (now map) n (summarySize c r e n) ⌝ }
+    ensures { λ w. ⌜ Gives w (now (out .entry)) (now (out .exit))
+        (into (length (now (out .entry))) (pack put2 (numbers (now (head .entry)) (now (classes .entry)) c (now (rows .entry)) r (now (edges .entry)) e (now (map .entry)) n))) ⌝ }
+{
+    let long = 24 + 8 * c + 8 * r + 6 * e + 2 * n;
+    if out.len() < long {
+        return Wrote::Refused(Refusal::Room);
+    }
+    put_parts(out, head, classes, c, rows, r, edges, e, map, n);
+    Wrote::Length(long)
+}
+
 // The five parts, of c classes, r rows, e class links and n items.
-pub fn put_parts(
+fn put_parts(
     out: &mut [u8],
     head: &[u16],
     classes: &[u16],

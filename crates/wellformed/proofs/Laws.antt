@@ -84,7 +84,6 @@ groups-low S e h = omega (arith, groups-few S (and-inv (each (classIn S) (S .cla
 pub rows-ascend : (S : Summary) → each (rowIn S) (S .rows) && ascends rowKey (S .rows) ≡ true → ascends rowKey (S .rows) ≡ true
 rows-ascend S e = and-inv (each (rowIn S) (S .rows)) (ascends rowKey (S .rows)) e .1
 
-
 -- the ranges, from the three numbers that were tested
 pub ranged : (S : Summary) {i µ ν : ℕ} {t : Bool} → i ≡ S .level → µ ≡ S .nearCap → ν ≡ S .classCap → inRange i µ ν ≡ t → inRange (S .level) (S .nearCap) (S .classCap) ≡ t
 ranged S e f g h = rw (← e, ← f, ← g) h

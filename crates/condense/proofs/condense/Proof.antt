@@ -1,7 +1,10 @@
 -- Level by level, and then the summary of what was reached.
 use native.Mathlib.Omega.{arith}
+use mathlib.Core.Path.{ap}
 use Rattle.register.proofs.Laws.{limits}
-use Rattle.condense.proofs.Laws.{classed, reached, gives-same}
+use Rattle.meaning.specs.Answers.{into}
+use Rattle.said.proofs.Laws.{gives-this}
+use Rattle.condense.proofs.Laws.{classed, reached}
 use borrow.Author.Needs.{needs}
 use Rattle.condense.proofs.condense.Statement.{statement}
 use Rattle.condense.proofs.condense.Tie as tie
@@ -50,7 +53,7 @@ returns c =
     let p = c .before .before in
     let l = p .before .before .before .before .before .before .before .before .before .before in
     let s = l .before .before .before .before .before .before .before in
-    gives-same _ _ _ _ _ (reached _ _ _ _ (s .args .i) (s .args .nu) _ _ _ _ _ _ _ _ (s .pre .0) (l .levels .ensures)) (p .put-summary .ensures)
+    gives-this _ _ _ _ _ (ap (into _) (reached _ _ _ _ (s .args .i) (s .args .nu) _ _ _ _ _ _ _ _ (s .pre .0) (l .levels .ensures))) (p .put-summary .ensures)
 
 pub condense-spec : {M : Type 1} → statement M
 condense-spec =

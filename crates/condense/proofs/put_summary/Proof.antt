@@ -1,7 +1,9 @@
 -- The parts in their order; each is what the definition of the summary has.
-use mathlib.Core.Path.{refl}
+use mathlib.Core.Path.{refl, ap}
 use native.Mathlib.Omega.{arith}
-use Rattle.condense.proofs.Laws.{few-items, few-groups, few-classes, map-there, sorted, given, few-rows, few-links, head-is, bytes-are, gives-same}
+use Rattle.meaning.specs.Answers.{into}
+use Rattle.said.proofs.Laws.{gives-this}
+use Rattle.condense.proofs.Laws.{few-items, few-groups, few-classes, map-there, sorted, given, few-rows, few-links, head-is, bytes-are}
 use borrow.Author.Needs.{needs}
 use Rattle.condense.proofs.put_summary.Statement.{statement}
 use Rattle.condense.proofs.put_summary.Tie as tie
@@ -99,7 +101,7 @@ returns c =
     let rows = (rn .row-numbers .ensures _ _ _ (given _ _ _ _ (s .args .nu) _ _ _ _ _ _ (s .args .i) (s .pre))) in
     let links = cl .class-links .ensures in
     let head = head-is _ _ _ _ (s .args .nu) _ _ _ _ _ _ (s .args .i) (s .pre) _ _ _ _ _ _ _ _ refl refl refl refl refl (rows .0) (links .0) (h .head .ensures) in
-    gives-same _ _ _ _ _ (bytes-are _ _ _ _ (s .args .nu) _ _ _ _ _ _ (s .args .i) (s .pre) _ _ _ _ _ _ head (rec .records .ensures .numbered) (rows .1) (links .1)) (f .file .ensures)
+    gives-this _ _ _ _ _ (ap (into _) (bytes-are _ _ _ _ (s .args .nu) _ _ _ _ _ _ (s .args .i) (s .pre) _ _ _ _ _ _ head (rec .records .ensures .numbered) (rows .1) (links .1))) (f .file .ensures)
 
 pub put-summary-spec : {M : Type 1} → statement M
 put-summary-spec =

@@ -1,7 +1,8 @@
 -- 4, and then all that is asked of an accepted register is there.
 use native.Mathlib.Omega.{arith}
 use mathlib.Core.Path.{sym, _∙_}
-use Rattle.hestovane.proofs.Laws.{range-low, condense-four, condense-fits, gives-this}
+use Rattle.said.proofs.Laws.{gives-this}
+use Rattle.hestovane.proofs.Laws.{range-low, condense-four, condense-fits}
 use borrow.Author.Needs.{needs}
 use Rattle.hestovane.proofs.condense_accepted.Statement.{statement}
 use Rattle.hestovane.proofs.condense_accepted.Tie as tie

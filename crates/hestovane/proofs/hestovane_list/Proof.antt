@@ -3,7 +3,7 @@ use mir.Syntax.{w32}
 use mir.Facts.{toZ-ofZ}
 use mathlib.Core.Path.{sym, ap, subst, _∙_}
 use Rattle.meaning.specs.Answers.{Returned, code}
-use Rattle.hestovane.specs.Short.{Short}
+use Rattle.said.specs.Written.{Short}
 use Rattle.hestovane.proofs.OnSummary.{list-short}
 use borrow.Author.Needs.{needs}
 use Rattle.hestovane.proofs.hestovane_list.Statement.{statement}

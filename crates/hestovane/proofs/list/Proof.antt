@@ -5,7 +5,7 @@ use Rattle.question.specs.Read.{told}
 use Rattle.question.proofs.Laws.{verdict-accepted, verdict-refused}
 use Rattle.matching.proofs.Laws.{keyed-as}
 use Rattle.meaning.specs.Answers
-use Rattle.hestovane.proofs.Laws.{gives-this}
+use Rattle.said.proofs.Laws.{gives-this}
 use Rattle.hestovane.proofs.OnSummary.{list-six, list-five, readied, gives-refused}
 use borrow.Author.Needs.{needs}
 use Rattle.hestovane.proofs.list.Statement.{statement}

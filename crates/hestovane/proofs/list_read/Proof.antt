@@ -8,7 +8,7 @@ use Rattle.meaning.specs.Bytes.{put2, pack}
 use Rattle.meaning.specs.Answers.{into}
 use Rattle.question.proofs.Laws.{parsed-question}
 use Rattle.inquiry.proofs.Laws.{not-refused}
-use Rattle.hestovane.proofs.Laws.{gives-this}
+use Rattle.said.proofs.Laws.{gives-this}
 use Rattle.hestovane.proofs.OnSummary.{beyond-by, list-seven, list-into, gives-refused, list-named, few-named}
 use borrow.Author.Needs.{needs}
 use Rattle.hestovane.proofs.list_read.Statement.{statement}

@@ -5,9 +5,9 @@ use native.Mathlib.Omega.{arith}
 use mathlib.Core.Path.{sym, _∙_}
 use Rattle.meaning.specs.Answers.{code}
 use borrow.Author.Needs.{needs, sfits-of}
-use Rattle.hestovane.proofs.Laws.{short-length}
-use Rattle.hestovane.proofs.measured.Statement.{statement}
-use Rattle.hestovane.proofs.measured.Tie as tie
+use Rattle.said.proofs.Laws.{short-length}
+use Rattle.said.proofs.measured.Statement.{statement}
+use Rattle.said.proofs.measured.Tie as tie
 
 enum-known-answer : tie.Need-enum-known-answer
 enum-known-answer c = search needs

@@ -4,10 +4,10 @@ use mathlib.Core.Path.{_∙_}
 use lib.ListN.{take}
 use lib.Seq.{length-take-le}
 use Rattle.summary.proofs.Laws.{size-numbers}
-use Rattle.condense.proofs.Laws.{no-room, whole}
+use Rattle.said.proofs.Laws.{no-room, whole}
 use borrow.Author.Needs.{needs}
-use Rattle.hestovane.proofs.put_list.Statement.{statement}
-use Rattle.hestovane.proofs.put_list.Tie as tie
+use Rattle.listed.proofs.put_list.Statement.{statement}
+use Rattle.listed.proofs.put_list.Tie as tie
 
 mul-if1 : tie.Need-mul-if1
 mul-if1 c = search needs

@@ -1,9 +1,10 @@
 -- The length is known before the first byte is written.
 use native.Mathlib.Omega.{arith}
-use Rattle.condense.proofs.Laws.{parts-long, no-room, whole}
+use Rattle.said.proofs.Laws.{no-room, whole}
+use Rattle.summary.proofs.Laws.{parts-long}
 use borrow.Author.Needs.{needs}
-use Rattle.condense.proofs.file.Statement.{statement}
-use Rattle.condense.proofs.file.Tie as tie
+use Rattle.summary.proofs.file.Statement.{statement}
+use Rattle.summary.proofs.file.Tie as tie
 
 mul-long : tie.Need-mul-long
 mul-long c = search needs

@@ -1,5 +1,4 @@
--- What the writer of a summary is handed, and what a call that fills a lent buffer gives: "A success returns the length written", "bytes
--- past that length stay". Leans on meaning's Answers and on surround's rows.
+-- What the writer of a summary is handed. Leans on register's and surround's records.
 use mathlib.Core.Path.{_≡_}
 use mathlib.Core.List.{List}
 use Prim.Native.Nat.{ℕ, _≤_}
@@ -7,21 +6,8 @@ use lib.ListN.{length, take}
 use Rattle.meaning.specs.Register.{items}
 use Rattle.meaning.specs.Level.{alike, classCount, Numbering}
 use Rattle.meaning.specs.RegisterFile.{registerIn}
-use Rattle.meaning.specs.Refusals.{numberOf}
-use Rattle.meaning.specs.Answers.{Answer, Returned, number, size, returned, left}
 use Rattle.register.specs.Told.{OfRegister}
 use Rattle.surround.specs.Surroundings.{RowsStand}
-use Rattle.condense.specs.declared.Wrote.{Wrote}
-use Rattle.condense.specs.declared.Wrote.the-variants.{Length, Refused}
-
-abbrev pub told : Wrote → Returned
-told (Length k) = size k
-told (Refused r) = number (numberOf r)
-
--- w is what is handed back of the answer a, and a buffer that held d now holds d′
-pub record Gives (w : Wrote) (d d′ : List ℕ) (a : Answer) : Type 0 where
-  pub says : told w ≡ returned a
-  pub leaves : d′ ≡ left a d
 
 -- an accepted register with g groups and c classes of its n items, the classes numbered in order of lowest item, and with the rows of
 -- its items against the groups
