@@ -6,6 +6,20 @@ use mathlib.Core.List.{List, [], _∷_, _++_}
 use lib.Dec.{T, eqb}
 use lib.ListN.{length}
 use Rattle.meaning.specs.Bytes.{num2}
+use Rattle.meaning.specs.Count as Count
+use Rattle.meaning.specs.Register as Register
+use Rattle.meaning.specs.Level as Level
+use Rattle.meaning.specs.Question as Question
+use Rattle.meaning.specs.Reading as Reading
+use Rattle.meaning.specs.Summary as Summary
+use Rattle.meaning.specs.Condense as Condense
+use Rattle.meaning.specs.WellFormed as WellFormed
+use Rattle.meaning.specs.Check as Check
+use Rattle.meaning.specs.Bytes as Bytes
+use Rattle.meaning.specs.RegisterFile as RegisterFile
+use Rattle.meaning.specs.SummaryFile as SummaryFile
+use Rattle.meaning.specs.QuestionFile as QuestionFile
+use Rattle.meaning.specs.Answers as Answers
 use Rattle.meaning.specs.Answers.{Answer, refused, said, wrote, condense, check, askRegister, askSummary, list}
 
 -- ---- registers
@@ -193,12 +207,26 @@ pub passes : List Case → Bool
 passes [] = true
 passes (c ∷ cs) = equal (c .got) (c .want) && passes cs
 
--- to unfold this is to unfold every definition that the table computes with
-open-all : ℕ
-unfolding passes table same equal entry literal out incoming truth A S1 chain three pair empty counts asked row bytes Rattle.meaning.specs.Count.sum Rattle.meaning.specs.Count.all Rattle.meaning.specs.Count.those Rattle.meaning.specs.Count.seek Rattle.meaning.specs.Count.tab Rattle.meaning.specs.Count.join Rattle.meaning.specs.Count.total Rattle.meaning.specs.Count.any Rattle.meaning.specs.Count.each Rattle.meaning.specs.Count.ascends Rattle.meaning.specs.Register.marksOf Rattle.meaning.specs.Register.sameWay Rattle.meaning.specs.Register.near Rattle.meaning.specs.Register.far Rattle.meaning.specs.Register.leads Rattle.meaning.specs.Register.neighbours Rattle.meaning.specs.Level.sameCount Rattle.meaning.specs.Level.sameAround Rattle.meaning.specs.Level.alike Rattle.meaning.specs.Level.first Rattle.meaning.specs.Level.lowest Rattle.meaning.specs.Level.number Rattle.meaning.specs.Level.classList Rattle.meaning.specs.Level.classCount Rattle.meaning.specs.Level.lowestItem Rattle.meaning.specs.Question.bit Rattle.meaning.specs.Question.shows Rattle.meaning.specs.Question.holds Rattle.meaning.specs.Question.depth Rattle.meaning.specs.Question.threshold Rattle.meaning.specs.Reading.push Rattle.meaning.specs.Reading.andPush Rattle.meaning.specs.Reading.stack Rattle.meaning.specs.Reading.only Rattle.meaning.specs.Reading.tree Rattle.meaning.specs.Summary.classOf Rattle.meaning.specs.Summary.classAt Rattle.meaning.specs.Summary.groupAt Rattle.meaning.specs.Summary.lowestClass Rattle.meaning.specs.Summary.rowFor Rattle.meaning.specs.Summary.counted Rattle.meaning.specs.Summary.stated Rattle.meaning.specs.Summary.joins Rattle.meaning.specs.Summary.holdsAt Rattle.meaning.specs.Summary.list Rattle.meaning.specs.Condense.rowUnless Rattle.meaning.specs.Condense.rowsThat Rattle.meaning.specs.Condense.classFor Rattle.meaning.specs.Condense.linksFrom Rattle.meaning.specs.Condense.summaryBy Rattle.meaning.specs.Condense.summaryOf Rattle.meaning.specs.WellFormed.within Rattle.meaning.specs.WellFormed.linkKey Rattle.meaning.specs.WellFormed.way Rattle.meaning.specs.WellFormed.rowKey Rattle.meaning.specs.WellFormed.linkIn Rattle.meaning.specs.WellFormed.inRange Rattle.meaning.specs.WellFormed.classIn Rattle.meaning.specs.WellFormed.rowIn Rattle.meaning.specs.WellFormed.hasRow Rattle.meaning.specs.WellFormed.hasLink Rattle.meaning.specs.WellFormed.rowsMatch Rattle.meaning.specs.WellFormed.sizes Rattle.meaning.specs.WellFormed.numbers Rattle.meaning.specs.WellFormed.order Rattle.meaning.specs.WellFormed.groupsUsed Rattle.meaning.specs.WellFormed.wellFormed Rattle.meaning.specs.Check.rowRight Rattle.meaning.specs.Check.imageStands Rattle.meaning.specs.Check.isImage Rattle.meaning.specs.Check.fits Rattle.meaning.specs.Bytes.num2 Rattle.meaning.specs.Bytes.num4 Rattle.meaning.specs.Bytes.put2 Rattle.meaning.specs.Bytes.put4 Rattle.meaning.specs.Bytes.pack Rattle.meaning.specs.RegisterFile.linkAt Rattle.meaning.specs.RegisterFile.putLink Rattle.meaning.specs.RegisterFile.registerIn Rattle.meaning.specs.RegisterFile.headed Rattle.meaning.specs.RegisterFile.linksFine Rattle.meaning.specs.RegisterFile.fault Rattle.meaning.specs.SummaryFile.classIs Rattle.meaning.specs.SummaryFile.putClass Rattle.meaning.specs.SummaryFile.wayFrom Rattle.meaning.specs.SummaryFile.labelFrom Rattle.meaning.specs.SummaryFile.rowIs Rattle.meaning.specs.SummaryFile.putRow Rattle.meaning.specs.SummaryFile.summaryIn Rattle.meaning.specs.SummaryFile.summaryHead Rattle.meaning.specs.SummaryFile.summaryBytes Rattle.meaning.specs.SummaryFile.exact Rattle.meaning.specs.SummaryFile.wellFormedFile Rattle.meaning.specs.QuestionFile.signed Rattle.meaning.specs.QuestionFile.when Rattle.meaning.specs.QuestionFile.kind Rattle.meaning.specs.QuestionFile.andKind Rattle.meaning.specs.QuestionFile.kinds Rattle.meaning.specs.QuestionFile.treeOf Rattle.meaning.specs.QuestionFile.question Rattle.meaning.specs.Answers.unless Rattle.meaning.specs.Answers.into Rattle.meaning.specs.Answers.condense Rattle.meaning.specs.Answers.check Rattle.meaning.specs.Answers.askTree Rattle.meaning.specs.Answers.askRegister Rattle.meaning.specs.Answers.beyond Rattle.meaning.specs.Answers.askIn Rattle.meaning.specs.Answers.askSummary Rattle.meaning.specs.Answers.listIn Rattle.meaning.specs.Answers.list
-open-all = 0
-
--- every case of the table is answered as document 01 says
+-- every case of the table is answered as document 01 says: computed with the definitions of each page, which are named here
 pub examples : T (passes table)
-unfolding open-all
+unfolding passes table same equal entry literal out incoming truth A S1 chain three pair empty counts asked row bytes
+    Count.sum Count.all Count.those Count.seek Count.tab Count.join Count.total Count.any Count.each Count.ascends
+    Register.marksOf Register.sameWay Register.near Register.far Register.leads Register.neighbours
+    Level.sameCount Level.sameAround Level.alike Level.first Level.lowest Level.number Level.classList Level.classCount Level.lowestItem
+    Question.bit Question.shows Question.holds Question.depth Question.threshold
+    Reading.push Reading.andPush Reading.stack Reading.only Reading.tree
+    Summary.classOf Summary.classAt Summary.groupAt Summary.lowestClass Summary.rowFor Summary.counted Summary.stated Summary.joins
+    Summary.holdsAt Summary.list
+    Condense.rowUnless Condense.rowsThat Condense.classFor Condense.linksFrom Condense.summaryBy Condense.summaryOf
+    WellFormed.within WellFormed.linkKey WellFormed.way WellFormed.rowKey WellFormed.linkIn WellFormed.inRange WellFormed.classIn
+    WellFormed.rowIn WellFormed.hasRow WellFormed.hasLink WellFormed.rowsMatch WellFormed.sizes WellFormed.numbers WellFormed.order
+    WellFormed.groupsUsed WellFormed.wellFormed
+    Check.rowRight Check.imageStands Check.isImage Check.fits
+    Bytes.num2 Bytes.num4 Bytes.put2 Bytes.put4 Bytes.pack
+    RegisterFile.linkAt RegisterFile.putLink RegisterFile.registerIn RegisterFile.headed RegisterFile.linksFine RegisterFile.fault
+    SummaryFile.classIs SummaryFile.putClass SummaryFile.wayFrom SummaryFile.labelFrom SummaryFile.rowIs SummaryFile.putRow
+    SummaryFile.summaryIn SummaryFile.summaryHead SummaryFile.summaryBytes SummaryFile.exact SummaryFile.wellFormedFile
+    QuestionFile.signed QuestionFile.when QuestionFile.kind QuestionFile.andKind QuestionFile.kinds QuestionFile.treeOf QuestionFile.question
+    Answers.unless Answers.into Answers.condense Answers.check Answers.askTree Answers.askRegister Answers.beyond Answers.askIn
+    Answers.askSummary Answers.listIn Answers.list
 examples = tt
