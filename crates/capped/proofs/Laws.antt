@@ -1,7 +1,7 @@
 -- A capped count stands for what was counted: the promises of its methods, put together. That capping a sum of capped counts is
 -- capping the sum, and that a threshold up to the cap plus one sees no cap, are laws of `cap` (theory: CapLaws).
 use mathlib.Core.Path.{_≡_}
-use Prim.Native.Nat.{ℕ, _+_, _≤_, _<_}
+use Prim.Native.Nat.{ℕ, _+_, _≤_}
 use native.Mathlib.Omega.{arith}
 use borrow.Author.Tests.{le-leb, leb-true, leb-false}
 use lib.Dec.{leb}

@@ -1,26 +1,25 @@
 -- One turn of the loop that enters items in their classes, and that its end is the class records. Leans on theory for searches and counts.
 use mathlib.Core.Path.{_≡_, refl, sym, ap, ap₂, _∙_}
-use mathlib.Core.Bool.{Bool, true, false, cond}
+use mathlib.Core.Bool.{Bool, true, false}
 use mathlib.Core.List.{List, [], _∷_, _++_}
 use Prim.Native.Nat.{ℕ, zero, suc, _+_, _*_, _/_, _%_, _≤_, _<_}
 use native.Mathlib.Omega.{arith}
 use native.Mathlib.Numerals.{add-one}
-use borrow.Author.Tests.{eqb-true, eq-eqb, ne-eqb}
+use borrow.Author.Tests.{eq-eqb, ne-eqb}
 use lib.Dec.{eqb}
 use lib.ListN.{length, getD, set, take, drop, replicate, length-set, getD-replicate}
 use lib.Seq.{take-add, drop-cons, getD-take, length-take-le, getD-set-same, getD-set-other}
 use Rattle.meaning.specs.Cap.{cap}
-use Rattle.meaning.specs.Count.{sum, tally, tab, join, seek}
+use Rattle.meaning.specs.Count.{sum, tally, join, seek}
 use Rattle.meaning.specs.Register.{Register, items, marksOf}
 use Rattle.meaning.specs.Level.{classCount, lowestItem}
 use Rattle.meaning.specs.Condense.{by, classFor}
 use Rattle.theory.proofs.CountLaws.{by-bool, by-eq, no, seek-le, seek-passes, join-same}
 use Rattle.theory.proofs.NumberLaws.{tally-lt, getD-below}
 use Rattle.promise.proofs.Access.{items-at, readable}
-use Rattle.meaning.specs.Bytes.{pack}
 use Rattle.meaning.specs.RegisterFile.{registerIn}
 use Rattle.wire.proofs.Sets.{pack-tab}
-use Rattle.summary.specs.Numbers.{classFields, classNumbers}
+use Rattle.summary.specs.Numbers.{classNumbers}
 use Rattle.classes.specs.Counted.{part, Sorted, Enters, Numbered}
 
 -- ---- an item entered

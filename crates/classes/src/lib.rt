@@ -3,15 +3,10 @@
 use capped::Capped;
 use names::Item;
 ghost use mathlib.Core.Path.{_≡_};
-ghost use Prim.Native.Nat.{_+_, _*_, _<_, _≤_};
+ghost use Prim.Native.Nat.{_+_, _*_, _<_};
 ghost use lib.ListN.{length, take};
-ghost use Rattle.meaning.specs.Count.{tab};
 ghost use Rattle.meaning.specs.Register.{items, marksOf};
-ghost use Rattle.meaning.specs.Level.{classCount};
-ghost use Rattle.meaning.specs.Condense.{classFor};
-ghost use Rattle.meaning.specs.Bytes.{pack};
 ghost use Rattle.meaning.specs.RegisterFile.{registerIn, fault};
-ghost use Rattle.summary.specs.Numbers.{classFields, classNumbers};
 ghost use Rattle.classes.specs.Counted.{Sorted, Enters, Numbered};
 
 // The records of the classes, four numbers each.

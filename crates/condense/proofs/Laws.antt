@@ -1,13 +1,10 @@
 -- The parts that the writer gathers are those of the summary of these groups and classes, within their limits. Leans on theory's limits,
 -- on alike's levels and on summary's laws of parts.
 use mathlib.Core.Path.{_≡_, refl, sym, subst, _∙_}
-use mathlib.Core.List.{List, _++_}
-use Prim.Native.Nat.{ℕ, _+_, _*_, _≤_, _<_, pred}
+use mathlib.Core.List.{List}
+use Prim.Native.Nat.{ℕ, _*_, _≤_, pred}
 use native.Mathlib.Omega.{arith}
-use borrow.Author.Tests.{le-leb, lt-leb}
-use lib.Dec.{leb}
-use lib.ListN.{length, take, length-append, length-take}
-use lib.Seq.{sets, length-take-le}
+use lib.ListN.{length, take, length-take}
 use Rattle.meaning.specs.Count.{tab}
 use Rattle.meaning.specs.Register.{Register}
 use Rattle.meaning.specs.Summary.{Summary}
@@ -15,20 +12,17 @@ use Rattle.meaning.specs.Level.{classList, classCount, alike, Numbering}
 use Rattle.meaning.specs.Condense.{classFor, summaryBy, summaryOf}
 use Rattle.meaning.specs.Bytes.{put2, pack}
 use Rattle.meaning.specs.RegisterFile.{registerIn}
-use Rattle.meaning.specs.SummaryFile.{summarySize, summaryBytes}
-use Rattle.meaning.specs.Answers.{returned, left, into}
-use Rattle.meaning.specs.declared.Refusal.the-variants.{Room}
+use Rattle.meaning.specs.SummaryFile.{summaryBytes}
 use Rattle.theory.proofs.CountLaws.{length-tab}
 use Rattle.theory.proofs.LimitLaws.{rows-most, links-most}
 use Rattle.theory.proofs.ClassListLaws.{class-list}
-use Rattle.wire.proofs.Sets.{sets-left}
 use Rattle.register.specs.Told.{OfRegister}
 use Rattle.register.proofs.Laws.{limits}
 use Rattle.alike.specs.Step.{Reached}
 use Rattle.surround.proofs.Keys.{of-fine}
 use Rattle.alike.proofs.ByLevel.{take-level}
-use Rattle.summary.specs.Numbers.{Parts, numbers, headOf, headNumbers, classFields, classNumbers, rowNumbers, edgeNumbers}
-use Rattle.summary.proofs.Laws.{parts-bytes, size-numbers}
+use Rattle.summary.specs.Numbers.{numbers, headOf, headNumbers, classFields, classNumbers, rowNumbers, edgeNumbers}
+use Rattle.summary.proofs.Laws.{parts-bytes}
 use Rattle.classes.specs.Counted.{Sorted}
 use Rattle.filed.specs.Copied.{Given, classRows}
 use Rattle.filed.proofs.Laws.{rows-long}

@@ -8,8 +8,8 @@ use native.Mathlib.Omega.{arith}
 use borrow.Author.Tests.{eq-eqb, ltb-true, ltb-false}
 use lib.Dec.{eqb, ltb}
 use lib.ListN.{length, getD, set, take, drop, length-take}
-use lib.Seq.{sets, sets-eq, take-at, getD-take, ext-getD}
-use Rattle.meaning.specs.Count.{tab, join}
+use lib.Seq.{sets, sets-eq, take-at, getD-take}
+use Rattle.meaning.specs.Count.{join}
 use Rattle.meaning.specs.Register.{Register}
 use Rattle.meaning.specs.Summary.{Row, noRow}
 use Rattle.meaning.specs.Level.{classCount, lowestItem, Numbering}

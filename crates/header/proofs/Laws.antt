@@ -1,7 +1,7 @@
 -- The header tested field by field: what a test that fails says of the whole, and what the last one says once the others passed. Leans on
 -- reader's Laws.
 use mathlib.Core.Path.{_≡_, sym, ap, _∙_}
-use mathlib.Core.Bool.{Bool, true, false}
+use mathlib.Core.Bool.{false}
 use mathlib.Core.List.{List}
 use Prim.Native.Nat.{ℕ, _≤_}
 use borrow.Author.Tests.{eq-eqb, le-leb}

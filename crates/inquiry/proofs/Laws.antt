@@ -8,11 +8,11 @@ use Prim.Native.Nat.{ℕ, _+_, _*_, _/_, _≤_, _<_}
 use native.Mathlib.Omega.{arith}
 use lib.Dec.{leb}
 use lib.IntN.{ℤ}
-use lib.ListN.{length, getD}
+use lib.ListN.{length}
 use Rattle.meaning.specs.Register.{Register, items, marksOf, Fine, neighbours}
 use Rattle.meaning.specs.declared.Direction.{Direction}
-use Rattle.meaning.specs.declared.Kind.the-variants.{True, Literal, Not, And, Or, AtLeast}
-use Rattle.meaning.specs.Question.{Question, always, literal, negation, both, either, atLeast, shows, holds}
+use Rattle.meaning.specs.declared.Kind.the-variants.{True, Literal, Not, AtLeast}
+use Rattle.meaning.specs.Question.{Question, shows, holds}
 use Rattle.theory.proofs.CountLaws.{by-eq}
 use Rattle.theory.proofs.NeighbourLaws.{neighbours-same}
 use Rattle.theory.proofs.ShapeLaws.{accepted-fine}
@@ -28,7 +28,7 @@ use Rattle.question.specs.declared.Spanned.{Spanned}
 use Rattle.question.specs.declared.Spanned.the-variants.{Tree, Refused}
 use Rattle.question.specs.Read.{Parsed, Spans}
 use Rattle.question.proofs.Laws.{forward, ends, parsed-true, parsed-literal, parsed-not, parsed-and, parsed-or, parsed-least, parsed-one, parsed-question, question-length, everywhere, every-entry}
-use Rattle.table.specs.Row.{row, Writes, paired, Counts}
+use Rattle.table.specs.Row.{row, Writes, paired}
 use Rattle.question.specs.declared.Filled.{Filled}
 use Rattle.question.specs.declared.Filled.the-variants.{Done, Refused as NotFilled}
 use Rattle.question.specs.declared.Asked.{Asked}

@@ -1,9 +1,7 @@
 // "Source item, label, target item, strictly ascending in that order of fields": links of six bytes, one after another, judged
 // where they stand. The same records are a register's links and a summary's class links. Leans on wire for the bytes.
 ghost use mathlib.Core.Path.{_≡_};
-ghost use mathlib.Core.Bool.{_&&_};
 ghost use Prim.Native.Nat.{_+_, _*_, _/_, _%_, _≤_, _<_};
-ghost use lib.Dec.{ltb};
 ghost use lib.ListN.{length};
 ghost use Rattle.meaning.specs.Count.{tab};
 ghost use Rattle.meaning.specs.RegisterFile.{linkAt};

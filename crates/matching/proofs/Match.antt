@@ -1,20 +1,19 @@
 -- Rows and class links match exactly when the keys of the rows and the keys that the class links ask for are the same numbers.
-use mathlib.Core.Path.{_≡_, refl, sym, ap, subst, _∙_}
+use mathlib.Core.Path.{_≡_, refl, sym, subst, _∙_}
 use mathlib.Core.Bool.{Bool, true, false, _&&_, _||_, Bool·beq}
-use mathlib.Core.List.{List, [], _∷_, _++_}
 use mathlib.Core.Logic.{⊎-elim}
-use Prim.Native.Nat.{ℕ, zero, suc, _+_, _*_, _≤_, _<_}
+use Prim.Native.Nat.{ℕ, _≤_, _<_}
 use native.Mathlib.Omega.{arith}
 use borrow.Author.Tests.{eqb-true, eq-eqb, ltb-true}
 use lib.Dec.{eqb, ltb}
 use lib.ListN.{getD, length}
-use Rattle.meaning.specs.Count.{tab, all, any, each, Every}
+use Rattle.meaning.specs.Count.{tab, any, each}
 use Rattle.meaning.specs.Register.{Link, noLink, near, far, leads, sameWay}
 use Rattle.meaning.specs.declared.Direction.{Direction}
 use Rattle.meaning.specs.declared.Direction.the-variants.{Outgoing, Incoming}
-use Rattle.meaning.specs.Summary.{Class, Row, Summary, noClass, noRow, classOf, rowOf, rowFor}
-use Rattle.meaning.specs.WellFormed.{within, way, rowKey, linkIn, classIn, rowIn, hasRow, hasLink, numbers, rowsMatch}
-use Rattle.theory.proofs.CountLaws.{by-bool, and-inv, and-yes, bool-iff, or-inv, eqb-refl, all-yes, all-at, getD-tab, length-tab, any-at, any-append, each-append, each-tab, each-every, every-at}
+use Rattle.meaning.specs.Summary.{Row, Summary, noClass, noRow, classOf, rowOf, rowFor}
+use Rattle.meaning.specs.WellFormed.{way, rowKey, linkIn, classIn, rowIn, hasRow, hasLink, numbers, rowsMatch}
+use Rattle.theory.proofs.CountLaws.{and-inv, and-yes, bool-iff, or-inv, all-yes, all-at, any-at, any-append, each-append, each-tab, each-every, every-at}
 use Rattle.theory.proofs.ShapeLaws.{link-in, number-parts, any-place, class-group, same-direction, own-direction}
 use Rattle.theory.proofs.MatchLaws.{leads-parts, leads-make}
 use Rattle.theory.proofs.OneLaws.{three, way-tells, way-small}

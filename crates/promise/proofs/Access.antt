@@ -15,7 +15,7 @@ use Rattle.meaning.specs.Summary.{classOf, classAt, rowFor, counted}
 use Rattle.meaning.specs.WellFormed.{linkIn, linkKey}
 use Rattle.theory.proofs.ShapeLaws.{link-in}
 use Rattle.meaning.specs.Bytes.{num2, num4}
-use Rattle.meaning.specs.RegisterFile.{linksOffset, registerSize, linkAt, registerIn, headed, linksFine, fault, Verdict, accepted, refused, verdictBy, verdict}
+use Rattle.meaning.specs.RegisterFile.{linksOffset, registerSize, linkAt, registerIn, headed, linksFine, fault, accepted, refused, verdictBy, verdict}
 use Rattle.meaning.specs.SummaryFile.{classIs, rowIs, summaryIn}
 
 module _ (b : List ℕ) where

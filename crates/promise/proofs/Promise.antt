@@ -6,7 +6,7 @@ use mathlib.Core.Option.{Option, none, some}
 use Prim.Native.Nat.{ℕ, zero, suc, _+_, _*_, _-_, _<_, _≤_}
 use native.Mathlib.Omega.{arith}
 use borrow.Author.Tests.{leb-true, ltb-true, ltb-false, lt-ltb, le-ltb}
-use lib.ListN.{getD, length, List·getD-eq-default}
+use lib.ListN.{length, List·getD-eq-default}
 use lib.Dec.{eqb, leb, ltb}
 use Rattle.meaning.specs.Count.{tab, those, each, ascends, Every}
 use Rattle.theory.proofs.CountLaws.{by-bool, and-inv, and-yes, length-tab, getD-tab, each-every, every-and, every-map}

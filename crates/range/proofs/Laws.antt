@@ -1,6 +1,6 @@
 -- The three tests of the range, one after another.
 use mathlib.Core.Path.{_≡_, sym}
-use mathlib.Core.Bool.{Bool, true, false}
+use mathlib.Core.Bool.{true, false}
 use Prim.Native.Nat.{ℕ}
 use Rattle.meaning.specs.WellFormed.{within, inRange}
 

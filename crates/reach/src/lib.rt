@@ -2,7 +2,7 @@
 // else; it comes before 8 and 9.
 ghost use mathlib.Core.Path.{_≡_};
 ghost use mathlib.Core.Bool.{true, _||_};
-ghost use Prim.Native.Nat.{_+_, _≤_};
+ghost use Prim.Native.Nat.{_+_};
 ghost use lib.Dec.{ltb};
 ghost use Rattle.meaning.specs.SummaryFile.{summaryIn, wellFormedFile};
 

@@ -4,15 +4,15 @@
 use mathlib.Core.Path.{_≡_, refl, sym, ap, _∙_}
 use mathlib.Core.Bool.{Bool, true, false, _&&_, _||_, or-true, or-false}
 use mathlib.Core.Logic.{⊎-elim}
-use mathlib.Core.List.{List, [], _∷_, _++_}
-use Prim.Native.Nat.{ℕ, zero, suc, _+_, _/_, _≤_, _<_, min}
+use mathlib.Core.List.{List, [], _∷_}
+use Prim.Native.Nat.{ℕ, _+_, _/_, _≤_, _<_}
 use native.Mathlib.Omega.{arith}
 use native.Mathlib.Numerals.{add-one}
 use borrow.Author.Tests.{lt-ltb, ltb-true, ltb-false, eq-eqb, ne-eqb, eqb-true}
 use lib.Dec.{eqb, ltb}
 use lib.ListN.{length, getD, take, set, length-set}
 use lib.Seq.{take-suc, length-take-le, getD-take, getD-set-same, getD-set-other}
-use Rattle.meaning.specs.Count.{all, tab, any, each, ascends}
+use Rattle.meaning.specs.Count.{all, any, each, ascends}
 use Rattle.theory.proofs.CountLaws.{by-bool, no, and-inv, and-yes, or-inv, bool-iff, eqb-sym, by-eq, all-yes, all-no, all-at, any-append, any-some, any-at, each-tab, every-and, each-every, each-yes, ascends-above, ascends-rest, ascends-at}
 use Rattle.theory.proofs.ShapeLaws.{any-place}
 use Rattle.lists.proofs.Laws.{front}

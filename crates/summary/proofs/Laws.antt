@@ -1,9 +1,9 @@
 -- The bytes of a summary are the bytes of its numbers, and five parts written one behind the other are one list. Leans on wire's Sets.
 use mathlib.Core.Path.{_≡_, refl, sym, ap, ap₂, _∙_}
 use mathlib.Core.List.{List, [], _∷_, _++_, append-nil, append-assoc}
-use Prim.Native.Nat.{ℕ, zero, suc, _+_, _*_, _≤_}
+use Prim.Native.Nat.{ℕ, _+_, _*_, _≤_}
 use native.Mathlib.Omega.{arith}
-use lib.ListN.{length, take, length-append, length-take}
+use lib.ListN.{length, take, length-append}
 use lib.Seq.{sets, length-take-le}
 use Rattle.meaning.specs.Summary.{Class, Row, Summary}
 use Rattle.meaning.specs.Register.{Link}

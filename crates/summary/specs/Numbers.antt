@@ -1,7 +1,6 @@
 -- A summary file as a list of two-byte numbers: "Class: marks (four), group, item count"; "Row: class, direction times 16 plus label,
 -- group, neighbour count"; "Class link: source class, label, target class"; "Map: the class of each item." Leans on meaning.
 use Prim.Native.Nat.{ℕ, _+_, _*_, _/_, _%_, _≤_}
-use mathlib.Core.Path.{_≡_}
 use mathlib.Core.List.{List, [], _∷_, _++_}
 use lib.ListN.{length, take}
 use Rattle.meaning.specs.Register.{Link}

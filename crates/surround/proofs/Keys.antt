@@ -16,14 +16,14 @@ use Rattle.meaning.specs.declared.Direction.the-variants.{Outgoing, Incoming}
 use Rattle.meaning.specs.WellFormed.{way}
 use Rattle.meaning.specs.Level.{classCount}
 use Rattle.meaning.specs.RegisterFile.{registerIn}
-use Rattle.theory.proofs.CountLaws.{by-eq, no, and-inv, and-yes, bool-iff, sum-zero, sum-split, tally-same, every-getD}
+use Rattle.theory.proofs.CountLaws.{no, and-inv, and-yes, bool-iff, sum-zero, sum-split, tally-same, every-getD}
 use Rattle.theory.proofs.NeighbourLaws.{far-in, neighbours-places, neighbours-none}
 use Rattle.theory.proofs.NumberLaws.{getD-below, count-le}
 use Rattle.theory.proofs.OneLaws.{way-tells}
-use Rattle.promise.proofs.Access.{items-at, links-at, readable}
+use Rattle.promise.proofs.Access.{links-at, readable}
 use Rattle.rows.specs.Rows.{hits, often}
 use Rattle.surround.specs.Surroundings.{OfClasses, keyOf}
-use Rattle.register.specs.Told.{OfItems, OfRegister}
+use Rattle.register.specs.Told.{OfRegister}
 use Rattle.surround.proofs.Words.{way-below}
 
 -- ---- what an accepted register has

@@ -16,9 +16,7 @@ use Rattle.meaning.specs.Count.{sum, tally}
 use Rattle.meaning.specs.Register.{Link, Register, linkOf, near, far, leads, neighbours}
 use Rattle.meaning.specs.declared.Direction.{Direction}
 use Rattle.meaning.specs.RegisterFile.{registerIn}
-use Rattle.promise.proofs.Access.{items-at, links-at, readable}
 use Rattle.table.specs.Row.{row, Writes, Counts, Below, Adds}
-use Rattle.register.specs.Told.{OfRegister}
 
 -- u is t with the first x items of row j written
 pub record Part (t u : List Bool) (j : ℕ) (p : ℕ → Bool) (x : ℕ) : Type 0 where

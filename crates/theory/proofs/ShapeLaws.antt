@@ -7,7 +7,7 @@ use native.Mathlib.Omega.{arith}
 use borrow.Author.Tests.{ltb-true, eqb-true}
 use lib.Dec.{eqb, leb, ltb}
 use lib.ListN.{getD, length}
-use Rattle.meaning.specs.Count.{any, each, total, ascends, Every}
+use Rattle.meaning.specs.Count.{any, each, total, ascends}
 use Rattle.theory.proofs.CountLaws.{by-bool, and-inv, and-yes, eqb-refl, all-at, seek-le, each-every, every-at, total-zero, or-inv, ascends-above, ascends-rest}
 use Rattle.meaning.specs.Register.{Link, Register, items, Fine, sameWay}
 use Rattle.meaning.specs.declared.Direction.{Direction}

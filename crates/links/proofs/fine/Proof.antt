@@ -1,7 +1,7 @@
 -- `fine` passes exactly when each link is in range and comes after the one before. The invariant: link k was read and comes after the
 -- one before, and the links before it are in range and in order, but for their sources, which are not above that of link k.
-use mathlib.Core.Path.{_≡_, refl, sym, _∙_}
-use Prim.Native.Nat.{_+_, _-_, _≤_, _<_}
+use mathlib.Core.Path.{refl, sym, _∙_}
+use Prim.Native.Nat.{_+_, _-_, _<_}
 use native.Mathlib.Omega.{arith}
 use borrow.Author.Tests.{not-true, not-false}
 use Rattle.theory.proofs.CountLaws.{all-no}

@@ -1,6 +1,5 @@
 -- 9, or the numbers of the items.
 use native.Mathlib.Omega.{arith}
-use mathlib.Core.Path.{_∙_}
 use lib.ListN.{take}
 use lib.Seq.{length-take-le}
 use Rattle.summary.proofs.Laws.{size-numbers}

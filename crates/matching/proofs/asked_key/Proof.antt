@@ -1,6 +1,6 @@
 -- The fields of the class link, as it is seen that way.
 use native.Mathlib.Omega.{arith}
-use mathlib.Core.Path.{_∙_, ap}
+use mathlib.Core.Path.{_∙_}
 use Rattle.matching.proofs.Match.{link-at}
 use Rattle.matching.proofs.Laws.{asked-out, asked-in}
 use borrow.Author.Needs.{needs}

@@ -7,7 +7,6 @@ use Rattle.meaning.specs.SummaryFile.{summaryIn}
 use Rattle.lists.specs.Writes.{Writes}
 use Rattle.lists.proofs.Laws.{writes-none, writes-next}
 use Rattle.matching.specs.Keys.{askedKey}
-use borrow.Author.Needs.{needs}
 use Rattle.matching.proofs.put_asked.Statement.{statement}
 use Rattle.matching.proofs.put_asked.Tie as tie
 

@@ -1,5 +1,5 @@
 -- Three calls: the starts of the classes, then every needed number is a key, and every key is marked.
-use mathlib.Core.Path.{refl, sym, _∙_}
+use mathlib.Core.Path.{sym, _∙_}
 use mathlib.Core.Bool.{false}
 use native.Mathlib.Omega.{arith}
 use borrow.Author.Needs.{needs}

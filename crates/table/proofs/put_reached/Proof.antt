@@ -4,7 +4,6 @@ use Prim.Native.Nat.{_-_, _≤_}
 use native.Mathlib.Omega.{arith}
 use lib.Dec.{leb}
 use lib.ListN.{getD}
-use Rattle.table.specs.Row.{row}
 use Rattle.table.proofs.Laws.{Part, part-none, part-next, part-all}
 use borrow.Author.Needs.{needs}
 use Rattle.table.proofs.put_reached.Statement.{statement}

@@ -3,7 +3,6 @@ use mathlib.Core.Path.{refl}
 use mathlib.Core.Bool.{true}
 use Prim.Native.Nat.{_-_, _≤_}
 use native.Mathlib.Omega.{arith}
-use Rattle.table.specs.Row.{row}
 use Rattle.table.proofs.Laws.{Part, part-none, part-next, part-all}
 use Rattle.table.proofs.put_true.Statement.{statement}
 use Rattle.table.proofs.put_true.Tie as tie
