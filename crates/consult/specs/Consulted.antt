@@ -1,5 +1,5 @@
 -- What is at hand where a question is asked of a summary, which rows are a class's own in a direction and label, what a row adds to a count
--- of neighbours, and what the answers say. Leans on meaning's Summary, on question's trees and on wellformed's Keys.
+-- of neighbours, and what the answers say. Leans on meaning's Summary, on question's trees and on matching's Keys.
 use Prim.Native.Nat.{ℕ, _+_, _-_, _*_, _≤_, _<_}
 use mathlib.Core.Path.{_≡_}
 use mathlib.Core.Bool.{Bool, true, false, not, cond}

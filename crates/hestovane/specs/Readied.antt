@@ -1,4 +1,4 @@
--- What a call on a summary has once summary and question are judged. Leans on meaning and on wellformed's Keys.
+-- What a call on a summary has once summary and question are judged. Leans on meaning and on matching's Keys.
 use mathlib.Core.Path.{_≡_}
 use mathlib.Core.Bool.{true}
 use mathlib.Core.List.{List}

@@ -1,15 +1,16 @@
--- A list read back place by place, and what writes from a place on come to. Leans on theory's CountLaws and on lib.Seq.
+-- A list read back place by place, what writes from a place on come to, and tests of numbers, one after another. Leans on theory's
+-- CountLaws and on lib.Seq.
 use mathlib.Core.Path.{_≡_, refl, sym, ap, _∙_}
-use mathlib.Core.Bool.{Bool, true}
+use mathlib.Core.Bool.{Bool, true, false}
 use mathlib.Core.List.{List, [], _∷_, _++_}
-use Prim.Native.Nat.{ℕ, zero, suc, _+_, _-_, _*_, _≤_, _<_}
+use Prim.Native.Nat.{ℕ, zero, suc, _+_, _*_, _≤_, _<_}
 use native.Mathlib.Omega.{arith}
-use borrow.Author.Tests.{eqb-true, eq-eqb}
+use borrow.Author.Tests.{eqb-true, eq-eqb, ne-eqb}
 use lib.Dec.{eqb}
-use lib.ListN.{length, getD, take, set, length-set, length-append}
-use lib.Seq.{take-suc, getD-set-same, getD-set-other, ext-getD, length-take-le, getD-take}
+use lib.ListN.{length, getD, take, set, length-set}
+use lib.Seq.{take-suc, take-at, getD-set-same, getD-set-other, ext-getD}
 use Rattle.meaning.specs.Count.{tab, all, any, each}
-use Rattle.theory.proofs.CountLaws.{by-eq, by-bool, bool-iff, length-tab, getD-tab, tab-same, all-at, all-yes, any-at, each-every, each-yes, every-at, every-getD}
+use Rattle.theory.proofs.CountLaws.{by-eq, bool-iff, length-tab, getD-tab, tab-same, all-at, all-yes, any-at, each-every, each-yes, every-at, every-getD}
 use Rattle.theory.proofs.ShapeLaws.{any-place}
 use Rattle.lists.specs.Writes.{Writes}
 
@@ -31,6 +32,10 @@ tab-more f m zero = let z : m + 0 ≡ m = omega arith in rw z (sym (mathlib.Core
 tab-more f m (suc n) =
     let z : m + suc n ≡ suc (m + n) = omega arith in
     rw z (ap (λ (l : List _). l ++ (f (m + n) ∷ [])) (tab-more f m n) ∙ mathlib.Core.List.append-assoc (tab f m) (tab (λ i. f (m + i)) n) (f (m + n) ∷ []))
+
+-- the e numbers at the front, where e is n
+pub tab-front : (f : ℕ → ℕ) (n e : ℕ) (t rest : List ℕ) → e ≡ n → t ≡ tab f e ++ rest → take e t ≡ tab f n
+tab-front f n e t rest u v = ap (take e) v ∙ take-at (tab f e) rest e (length-tab f e) ∙ ap (tab f) u
 
 -- ---- tests of a list, place by place; numbers in a list that is made place by place
 
@@ -81,3 +86,18 @@ two-written t u v m f g h w x =
     ∙ tab-more (λ i. getD v i 0) m m
     ∙ ap (λ (l : List ℕ). l ++ tab (λ i. getD v (m + i) 0) m) (tab-same (λ i. getD v i 0) f m (λ i h. let q : i ≡ 0 + i = omega arith in x .kept i h ∙ ap (λ (j : ℕ). getD u j 0) q ∙ w .says i h))
     ∙ ap (λ (l : List ℕ). tab f m ++ l) (tab-same (λ i. getD v (m + i) 0) g m (λ i u. x .says i u)))
+
+-- ---- a test of numbers, one after another
+
+pub all-same : (p q : ℕ → Bool) (n : ℕ) → ((i : ℕ) → i < n → p i ≡ q i) → all p n ≡ all q n
+all-same p q n h =
+    bool-iff (all p n) (all q n)
+    (λ e. all-yes q n (λ i u. sym (h i u) ∙ all-at p n i u e))
+    (λ e. all-yes p n (λ i u. h i u ∙ all-at q n i u e))
+
+-- two numbers read and compared: a is x, and b is y
+pub told-yes : (a b x y : ℕ) → a ≡ x → b ≡ y → a ≡ b → eqb x y ≡ true
+told-yes a b x y e f g = eq-eqb x y (sym e ∙ g ∙ f)
+
+pub told-no : (a b x y : ℕ) → a ≡ x → b ≡ y → (a ≡ b → ⊥) → eqb x y ≡ false
+told-no a b x y e f g = ne-eqb x y (λ h. g (e ∙ h ∙ sym f))

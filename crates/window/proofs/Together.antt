@@ -1,5 +1,5 @@
 -- "the class's rows in that direction and label" stand together: from the first whose key is not below the least that such a row may have,
--- to the first whose key is above all of them. Leans on seek for what a search finds, and on wellformed's laws of keys.
+-- to the first whose key is above all of them. Leans on seek for what a search finds, and on matching's laws of keys.
 use mathlib.Core.Path.{_≡_, refl, sym, ap, _∙_}
 use mathlib.Core.Bool.{Bool, true, false, cond, _&&_}
 use mathlib.Core.List.{List}

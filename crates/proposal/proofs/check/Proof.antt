@@ -2,12 +2,15 @@
 use mathlib.Core.Path.{sym, _∙_}
 use native.Mathlib.Omega.{arith}
 use borrow.Author.Tests.{not-true, not-false}
-use Rattle.proposal.proofs.Laws.{file-parts, proposed, searched, no-items, no-marks, no-counts, no-links, only-rows}
+use Rattle.header.proofs.File.{well-file}
+use Rattle.header.proofs.Proposed.{proposed}
+use Rattle.rowwise.proofs.Window.{searched}
+use Rattle.proposal.proofs.Laws.{no-items, no-marks, no-counts, no-links, only-rows}
 use Rattle.proposal.proofs.check.Statement.{statement}
 use Rattle.proposal.proofs.check.Tie as tie
 
 items-requires : tie.Need-items-requires
-items-requires c κs = file-parts _ (c .before .before .before .pre .1) .0
+items-requires c κs = well-file _ (c .before .before .before .pre .1) .0
 
 returns : tie.Need-returns
 returns c =
@@ -15,7 +18,7 @@ returns c =
     no-items _ _ _ (s .pre .0 .items-are) (λ e. c .if1 .taken (c .before .items .ensures .0 ∙ e))
 
 near-cap-requires : tie.Need-near-cap-requires
-near-cap-requires c κs = file-parts _ (c .before .before .before .before .before .pre .1) .0
+near-cap-requires c κs = well-file _ (c .before .before .before .before .before .pre .1) .0
 
 cast-mu : tie.Need-cast-mu
 cast-mu c =
@@ -23,7 +26,7 @@ cast-mu c =
     omega (arith, c .near-cap .ensures, p .near-low)
 
 class-cap-requires : tie.Need-class-cap-requires
-class-cap-requires c κs = file-parts _ (c .before .before .before .before .before .before .pre .1) .0
+class-cap-requires c κs = well-file _ (c .before .before .before .before .before .before .pre .1) .0
 
 cast-nu : tie.Need-cast-nu
 cast-nu c =
