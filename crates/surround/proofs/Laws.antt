@@ -1,7 +1,7 @@
 -- The rows that the code writes are meaning's; and reading them. Leans on Words and Keys.
 use mathlib.Core.Path.{_≡_, refl, sym, ap, _∙_}
 use mathlib.Core.List.{List, _++_}
-use Prim.Native.Nat.{ℕ, _+_, _*_, _/_, _%_, _≤_, _<_}
+use Prim.Native.Nat.{ℕ, _+_, _*_, _≤_, _<_}
 use native.Mathlib.Omega.{arith}
 use lib.ListN.{length, getD, drop, take, length-take, take-append-drop}
 use lib.Seq.{take-at}
@@ -13,7 +13,7 @@ use Rattle.meaning.specs.Level.{classCount}
 use Rattle.meaning.specs.Summary.{noRow}
 use Rattle.meaning.specs.Condense.{rowsAt, by}
 use Rattle.meaning.specs.RegisterFile.{registerIn}
-use Rattle.theory.proofs.CountLaws.{every-at, length-tab, tab-same, join-same}
+use Rattle.theory.proofs.CountLaws.{length-tab, tab-same, join-same}
 use Rattle.order.specs.Sorted.{sorted}
 use Rattle.order.proofs.Front.{tab-read}
 use Rattle.rows.specs.Rows.{rowsOf, startOf}
@@ -22,7 +22,7 @@ use Rattle.rows.proofs.Laws.{often-sorted}
 use Rattle.lists.specs.Writes.{Writes}
 use Rattle.surround.specs.Surroundings.{OfClasses, keyOf, wordOf, words, itemRows, itemStart, RowsStand}
 use Rattle.register.specs.Told.{OfRegister}
-use Rattle.surround.proofs.Words.{RowFits, word-fields, words-length, words-at, rows-fit, item-words, words-any}
+use Rattle.surround.proofs.Words.{words-length, words-at, item-words, words-any}
 use Rattle.surround.proofs.Keys.{list-few, often-neighbours, neighbours-past}
 
 -- ---- the rows that the code writes
@@ -109,17 +109,6 @@ module _ (R : Register) (µ : ℕ) (cs : List ℕ) (n : ℕ) (starts rows : List
       rows-read R µ cs n starts rows _ _ starts-part rows-part x j h (omega (arith, same-size))
       ∙ ap (λ (l : List ℕ). getD l j 0) (sym any-class)
       ∙ words-at (rowsAt µ R (by cs) (classCount cs) k x) j u
-
-  -- so its fields can be read from the word
-  pub row-fields : µ < 15 → classCount cs ≤ 1024 → (j : ℕ) → j < length (rowsAt µ R (by cs) (classCount cs) k x) →
-      let w = getD rows (getD starts x 0 + j) 0 in
-      let r = getD (rowsAt µ R (by cs) (classCount cs) k x) j noRow in
-      (w / 16384 ≡ way (r .direction) (r .label)) × (w / 16 % 1024 ≡ r .group) × (w % 16 ≡ r .count)
-  row-fields low few j u =
-      let r = getD (rowsAt µ R (by cs) (classCount cs) k x) j noRow in
-      let f = word-fields k r (every-at (RowFits k) noRow (rowsAt µ R (by cs) (classCount cs) k x) (rows-fit µ low R (by cs) (classCount cs) few k x) j u) in
-      let e = row-word j u in
-      (ap (λ (w : ℕ). w / 16384) e ∙ f .0, ap (λ (w : ℕ). w / 16 % 1024) e ∙ f .1, ap (λ (w : ℕ). w % 16) e ∙ f .2)
 
   -- and all its words stand within the array
   pub row-within : getD starts (x + 1) 0 ≤ length rows
