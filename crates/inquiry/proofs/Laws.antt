@@ -8,11 +8,11 @@ use Prim.Native.Nat.{ℕ, _+_, _*_, _/_, _≤_, _<_}
 use native.Mathlib.Omega.{arith}
 use lib.Dec.{leb}
 use lib.IntN.{ℤ}
-use lib.ListN.{length, getD}
+use lib.ListN.{length}
 use Rattle.meaning.specs.Register.{Register, items, marksOf, Fine, neighbours}
 use Rattle.meaning.specs.declared.Direction.{Direction}
-use Rattle.meaning.specs.declared.Kind.the-variants.{True, Literal, Not, And, Or, AtLeast}
-use Rattle.meaning.specs.Question.{Question, always, literal, negation, both, either, atLeast, shows, holds}
+use Rattle.meaning.specs.declared.Kind.the-variants.{True, Literal, Not, AtLeast}
+use Rattle.meaning.specs.Question.{Question, shows, holds}
 use Rattle.theory.proofs.CountLaws.{by-eq}
 use Rattle.theory.proofs.NeighbourLaws.{neighbours-same}
 use Rattle.theory.proofs.ShapeLaws.{accepted-fine}
@@ -28,9 +28,7 @@ use Rattle.question.specs.declared.Spanned.{Spanned}
 use Rattle.question.specs.declared.Spanned.the-variants.{Tree, Refused}
 use Rattle.question.specs.Read.{Parsed, Spans}
 use Rattle.question.proofs.Laws.{forward, ends, parsed-true, parsed-literal, parsed-not, parsed-and, parsed-or, parsed-least, parsed-one, parsed-question, question-length, everywhere, every-entry}
-use Rattle.table.specs.Row.{row, Writes, paired, Counts}
-use Rattle.question.specs.declared.Filled.{Filled}
-use Rattle.question.specs.declared.Filled.the-variants.{Done, Refused as NotFilled}
+use Rattle.table.specs.Row.{row, Writes, paired}
 use Rattle.question.specs.declared.Asked.{Asked}
 use Rattle.question.specs.declared.Asked.the-variants.{Said}
 use Rattle.memo.specs.Kept.{Tells}
@@ -168,7 +166,3 @@ module _ (q : List ℕ) (w : Whole q) where
 -- the links of an accepted register are in range
 pub register-fine : (b : List ℕ) → fault b ≡ 0 → Fine (registerIn b)
 register-fine b e = accepted-fine (registerIn b) (fault-accepted b e)
-
--- what is done is not refused
-pub not-refused : (s : Filled) (r : Refusal) → s ≡ Done → s ≡ NotFilled r → ⊥
-not-refused s r e f = let z : _≡_ {A = ℕ} 0 1 = cc in omega arith
