@@ -1,30 +1,30 @@
 -- What is said of a tree at an item, put together from what is said of its operands there and at its neighbours. Leans on question's laws of
 -- the tree that stands at an entry, and on nearby's of the links of an item.
-use mathlib.Core.Path.{_≡_, refl, sym, ap, ap₂, subst, _∙_}
-use mathlib.Core.Bool.{Bool, true, false, not, cond, _&&_, _||_}
-use mathlib.Core.Logic.{_⊎_, inl, inr, ⊎-elim}
+use mathlib.Core.Path.{_≡_, refl, sym, ap, subst, _∙_}
+use mathlib.Core.Bool.{Bool, true, false, not, cond, _&&_}
+use mathlib.Core.Logic.{_⊎_, ⊎-elim}
 use mathlib.Core.List.{List}
 use mathlib.Core.Option.{some}
 use Prim.Native.Nat.{ℕ, _+_, _-_, _≤_, _<_}
 use native.Mathlib.Omega.{arith}
-use borrow.Author.Tests.{ltb-true, ltb-false, le-leb, lt-leb, eq-eqb, ne-eqb}
-use lib.Dec.{leb, ltb, eqb}
+use borrow.Author.Tests.{le-leb, lt-leb, eq-eqb, ne-eqb}
+use lib.Dec.{eqb}
 use lib.IntN.{ℤ}
 use lib.Seq.{take-all, length-take-le}
-use lib.ListN.{length, take, drop, getD, replicate, length-replicate, getD-replicate, List·getD-eq-default}
+use lib.ListN.{length, take, drop}
 use Rattle.meaning.specs.Count.{tally}
 use Rattle.meaning.specs.Register.{Register, marksOf, linkOf, near, far, leads, neighbours}
 use Rattle.meaning.specs.declared.Direction.{Direction}
 use Rattle.meaning.specs.declared.Kind.{Kind}
-use Rattle.meaning.specs.declared.Kind.the-variants.{True, Literal, Not, And, Or, AtLeast}
+use Rattle.meaning.specs.declared.Kind.the-variants.{True, Literal, Not, AtLeast}
 use Rattle.meaning.specs.Question.{Question, shows, holds}
 use Rattle.meaning.specs.declared.Refusal.{Refusal}
-use Rattle.theory.proofs.CountLaws.{by-bool, by-eq}
+use Rattle.theory.proofs.CountLaws.{by-eq}
 use Rattle.question.specs.declared.Spanned.{Spanned}
 use Rattle.question.specs.declared.Spanned.the-variants.{Tree}
 use Rattle.entry.specs.Entries.{entryAt}
 use Rattle.question.specs.Read.{Parsed, Spans}
-use Rattle.question.proofs.Laws.{forward, parsed-true, parsed-literal, parsed-not, parsed-and, parsed-or, parsed-least, parsed-one}
+use Rattle.question.proofs.Laws.{parsed-true, parsed-literal, parsed-not, parsed-least, parsed-one}
 use Rattle.question.proofs.Steps.{Two}
 use Rattle.question.specs.declared.Asked.{Asked}
 use Rattle.question.specs.declared.Asked.the-variants.{Said, Refused}

@@ -12,7 +12,7 @@ use Rattle.meaning.specs.RegisterFile.{registerIn}
 use Rattle.nearby.proofs.Laws.{has-link}
 use Rattle.entry.specs.Entries.{entryAt}
 use Rattle.entry.proofs.Laws.{is-entry, within-entry, literal-back, literal-read, least-read}
-use Rattle.question.proofs.Steps.{Two, two-of}
+use Rattle.question.proofs.Steps.{two-of}
 use Rattle.memo.specs.Kept.{Remembers}
 use Rattle.memo.proofs.Laws.{spans-on, recalled-so, remembers-kept}
 use Rattle.descent.proofs.Laws.{tells-refused, tells-true, tells-literal, tells-not, tells-first, tells-second, tells-least, Met, met-none, met-one, met-enough, met-all, Own, own-link, cond-most, item-few, leads-other, leads-there}
