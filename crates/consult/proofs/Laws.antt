@@ -1,30 +1,26 @@
 -- What `holds` and `neighbour_count` say of every tree at an entry, put together from what their calls say. Leans on question's laws of the
 -- tree that stands at an entry, and on window's of a class's rows.
 use mathlib.Core.Path.{_≡_, refl, sym, ap, ap₂, subst, _∙_}
-use mathlib.Core.Bool.{Bool, true, false, not, cond, _&&_, _||_}
-use mathlib.Core.Logic.{_⊎_, inl, inr, ⊎-elim}
-use mathlib.Core.List.{List, [], _∷_}
+use mathlib.Core.Bool.{Bool, true, false, cond, _&&_}
+use mathlib.Core.List.{List}
 use mathlib.Core.Option.{some}
 use Prim.Native.Nat.{ℕ, suc, _+_, _-_, _*_, _≤_, _<_}
 use native.Mathlib.Omega.{arith}
-use borrow.Author.Tests.{leb-true, ltb-true, ltb-false, lt-ltb, le-ltb}
-use types.Run.{OneOf}
-use denote.Enum.Declared.{tagOf}
+use borrow.Author.Tests.{leb-true}
 use lib.Dec.{leb, ltb, eqb}
 use lib.IntN.{ℤ}
-use lib.ListN.{length, getD, set, replicate, length-set, length-replicate, getD-replicate, List·getD-eq-default}
-use lib.Seq.{getD-set-same, getD-set-other, set-out}
+use lib.ListN.{length, getD, set}
+use lib.Seq.{getD-set-same, getD-set-other}
 use Rattle.meaning.specs.Count.{sum}
 use Rattle.meaning.specs.declared.Direction.{Direction}
 use Rattle.meaning.specs.declared.Kind.{Kind}
-use Rattle.meaning.specs.declared.Kind.the-variants.{True, Literal, Not, And, Or, AtLeast}
-use Rattle.meaning.proofs.Kind.{the-type}
+use Rattle.meaning.specs.declared.Kind.the-variants.{True, Literal, Not, AtLeast}
 use Rattle.meaning.specs.Question.{Question, shows}
 use Rattle.meaning.specs.Summary.{Row, Summary, noRow, classOf, rowOf, lowestClass, holdsAt}
 use Rattle.meaning.specs.WellFormed.{within, rowIn, numbers, wellFormed}
 use Rattle.meaning.specs.SummaryFile.{summaryIn}
 use Rattle.meaning.specs.declared.Refusal.{Refusal}
-use Rattle.theory.proofs.CountLaws.{by-bool, by-eq, and-inv, each-every, every-at}
+use Rattle.theory.proofs.CountLaws.{by-eq, and-inv, each-every, every-at}
 use Rattle.theory.proofs.ShapeLaws.{well-parts, number-parts}
 use Rattle.entry.specs.declared.Reading.{Reading}
 use Rattle.entry.specs.declared.Reading.the-variants.{Malformed}
@@ -33,10 +29,11 @@ use Rattle.entry.proofs.Laws.{clash}
 use Rattle.question.specs.declared.Asked.{Asked}
 use Rattle.question.specs.declared.Asked.the-variants.{Said, Refused as NotSaid}
 use Rattle.question.specs.declared.Filled.{Filled}
+use Rattle.question.specs.declared.Filled.the-variants as fills
 use Rattle.question.specs.declared.Spanned.{Spanned}
 use Rattle.question.specs.declared.Spanned.the-variants.{Tree, Refused}
 use Rattle.question.specs.Read.{Parsed, Spans}
-use Rattle.question.proofs.Laws.{reads-first, forward, parsed-true, parsed-literal, parsed-not, parsed-and, parsed-or, parsed-least, parsed-one}
+use Rattle.question.proofs.Laws.{reads-first, parsed-true, parsed-literal, parsed-not, parsed-least, parsed-one, said-one, not-refused, done-not-refused}
 use Rattle.question.proofs.Steps.{Two}
 use Rattle.memo.specs.Kept.{turned, any, decides, tell, slot}
 use Rattle.memo.proofs.Laws.{joins, decided, undecided, operands, recalled-so, remembers-kept}
@@ -56,12 +53,6 @@ operands-here : (q : List ℕ) (i : ℕ) (S : Summary) (c : ℕ) (kind : Kind) �
     (p : Question) × (r : Question) × (m : ℕ) × (holdsAt S t c ≡ joins (any kind) (holdsAt S p c) (holdsAt S r c)) × Parsed q (i + 1) p m × Parsed q m r k
 unfolding holdsAt
 operands-here q i S c = operands (λ t. holdsAt S t c) (λ t u. refl) (λ t u. refl) q i
-
-pub not-refused : (a : Asked) (b : Bool) (r : Refusal) → a ≡ Said b → a ≡ NotSaid r → ⊥
-not-refused a b r e f = let z : _≡_ {A = ℕ} 0 1 = cc in omega arith
-
-said-one : (a : Asked) (b d : Bool) → a ≡ Said b → a ≡ Said d → b ≡ d
-said-one a b d e f = cc
 
 module _ (q : List ℕ) (i : ℕ) (S : Summary) (c : ℕ) where
   pub holds-none : (s : Reading) (r : Asked) → kindOf s ≡ entryAt q i → s ≡ Malformed → Holds q i S c r
@@ -197,17 +188,25 @@ module _ (q : List ℕ) (S : Summary) (known : List ℕ) (r : Remembers q S know
 
 -- ---- the classes, one after another
 
--- the first k classes are answered
-abbrev pub Answered : List ℕ → Summary → List Bool → ℕ → Type 0
-Answered q S answers k = (t : Question) (m : ℕ) → Parsed q 0 t m → (i : ℕ) → i < k → getD answers i false ≡ holdsAt S t i
+-- the classes from `from` up to k are answered
+abbrev pub Answered : List ℕ → Summary → ℕ → List Bool → ℕ → Type 0
+Answered q S from answers k = (t : Question) (m : ℕ) → Parsed q 0 t m → (i : ℕ) → from ≤ i → i < k → getD answers i false ≡ holdsAt S t i
 
-pub one-answered : (q : List ℕ) (S : Summary) (answers : List Bool) (k : ℕ) (a : Asked) (r : Bool) → k < length answers → Holds q 0 S k a → a ≡ Said r →
-    Answered q S answers k → Answered q S (set answers k r) (k + 1)
-one-answered q S answers k a r h holds e answered t m p i u =
+pub one-answered : (q : List ℕ) (S : Summary) (from : ℕ) (answers : List Bool) (k : ℕ) (a : Asked) (r : Bool) → k < length answers → Holds q 0 S k a → a ≡ Said r →
+    Answered q S from answers k → Answered q S from (set answers k r) (k + 1)
+one-answered q S from answers k a r h holds e answered t m p i l u =
     by-eq i k
     (λ z. rw z (getD-set-same answers k r false h ∙ said-one a r _ e (holds t m p)))
-    (λ z. getD-set-other answers k i r false z ∙ answered t m p i (omega arith))
+    (λ z. getD-set-other answers k i r false z ∙ answered t m p i l (omega arith))
 
 -- a class that is refused is not asked by a tree
-pub not-answered : (q : List ℕ) (S : Summary) (answers : List Bool) (k : ℕ) (a : Asked) (r : Refusal) (f : Filled) → Holds q 0 S k a → a ≡ NotSaid r → Answers q S f answers
-not-answered q S answers k a r f holds e t m p = absurd (not-refused a _ r (holds t m p) e)
+pub not-answered : (q : List ℕ) (S : Summary) (from to : ℕ) (answers : List Bool) (k : ℕ) (a : Asked) (r : Refusal) (f : Filled) → Holds q 0 S k a → a ≡ NotSaid r → Answers q S from to f answers
+not-answered q S from to answers k a r f holds e t m p = absurd (not-refused a _ r (holds t m p) e)
+
+-- class x, asked alone
+module _ (q : List ℕ) (S : Summary) (x k : ℕ) (same : k ≡ x) (f : Filled) (answers : List Bool) (said : Answers q S k (k + 1) f answers) where
+  pub alone-answered : Holds q 0 S x (Said (getD answers k false))
+  alone-answered t m p = ap (λ (b : Bool). Said b) (said t m p .1 k (omega arith) (omega arith) ∙ ap (holdsAt S t) same)
+
+  pub alone-refused : (r : Refusal) (a : Asked) → f ≡ fills.Refused r → Holds q 0 S x a
+  alone-refused r a e t m p = absurd (done-not-refused f r (said t m p .0) e)

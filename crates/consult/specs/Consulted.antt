@@ -1,18 +1,14 @@
 -- What is at hand where a question is asked of a summary, which rows are a class's own in a direction and label, what a row adds to a count
 -- of neighbours, and what the answers say. Leans on meaning's Summary, on question's trees and on matching's Keys.
-use Prim.Native.Nat.{ℕ, _+_, _-_, _*_, _≤_, _<_}
+use Prim.Native.Nat.{ℕ, _+_, _-_, _≤_, _<_}
 use mathlib.Core.Path.{_≡_}
-use mathlib.Core.Bool.{Bool, true, false, not, cond}
+use mathlib.Core.Bool.{Bool, true, false, cond}
 use mathlib.Core.List.{List}
-use mathlib.Core.Logic.{_⊎_}
-use lib.Dec.{leb, ltb}
-use lib.ListN.{length, getD, set}
+use lib.Dec.{leb}
+use lib.ListN.{length, getD}
 use Rattle.meaning.specs.Count.{sum}
-use Rattle.meaning.specs.declared.Direction.{Direction}
-use Rattle.meaning.specs.declared.Kind.{Kind}
-use Rattle.meaning.specs.declared.Kind.the-variants.{True, Literal, Not, And, Or, AtLeast}
 use Rattle.meaning.specs.Question.{Question}
-use Rattle.meaning.specs.Summary.{Summary, rowOf, rowFor, lowestClass, holdsAt}
+use Rattle.meaning.specs.Summary.{Summary, rowOf, lowestClass, holdsAt}
 use Rattle.meaning.specs.SummaryFile.{summaryIn, wellFormedFile}
 use Rattle.meaning.specs.declared.Refusal.the-variants.{Question as Malformation}
 use Rattle.question.specs.declared.Asked.{Asked}
@@ -45,9 +41,9 @@ Holds q i S c r = (t : Question) (k : ℕ) → Parsed q i t k → r ≡ Said (ho
 abbrev pub Counts : List ℕ → ℕ → Summary → ℕ → ℕ → Counted → Type 0
 Counts q i S low high r = (t : Question) (k : ℕ) → Parsed q i t k → r ≡ Sum (sum (λ j. adds S t (low + j)) (high - low))
 
--- every class is answered
-abbrev pub Answers : List ℕ → Summary → Filled → List Bool → Type 0
-Answers q S r answers = (t : Question) (k : ℕ) → Parsed q 0 t k → (r ≡ Done) × ((c : ℕ) → c < length (S .classes) → getD answers c false ≡ holdsAt S t c)
+-- every class from `from` up to `to` is answered
+abbrev pub Answers : List ℕ → Summary → ℕ → ℕ → Filled → List Bool → Type 0
+Answers q S from to r answers = (t : Question) (k : ℕ) → Parsed q 0 t k → (r ≡ Done) × ((c : ℕ) → from ≤ c → c < to → getD answers c false ≡ holdsAt S t c)
 
 -- "at least t"
 abbrev pub reached : ℕ → Counted → Asked

@@ -11,8 +11,8 @@ use question::Filled;
 use question::Spanned;
 ghost use mathlib.Core.Path.{_≡_};
 ghost use mathlib.Core.Bool.{true, cond};
-ghost use Prim.Native.Nat.{ℕ, _+_, _≤_, _<_};
-ghost use lib.ListN.{length, getD};
+ghost use Prim.Native.Nat.{_+_, _≤_, _<_};
+ghost use lib.ListN.{length};
 ghost use Rattle.meaning.specs.Summary.{lowestClass};
 ghost use Rattle.meaning.specs.SummaryFile.{summaryIn, wellFormedFile};
 ghost use Rattle.matching.specs.Keys.{Keyed};
@@ -25,43 +25,46 @@ enum Counted {
     Refused(Refusal),
 }
 
-// Whether the question, which has that depth, holds at the class. Where no at-least stands inside another, nothing is worth keeping; and a
-// question of 16 entries needs less room, which is quicker cleared.
+// Whether the question, which has that depth, holds at the class.
 pub fn ask(q: &[u8], depth: usize, s: &[u8], keys: &[u64], class: Class) -> Asked
     requires { ⌜ (wellFormedFile (now s) ≡ true) × (length (now keys) ≡ 4096) × Keyed true (summaryIn (now s)) (now keys) × (class .0 < length (summaryIn (now s) .classes)) ⌝ }
     ensures { λ r. ⌜ Holds (now (q .entry)) 0 (summaryIn (now (s .entry))) (class .0) r ⌝ }
 {
-    let mut lowest = [0u16; 1024];
-    window::put_lowest(s, &mut lowest);
-    if depth < 2 {
-        let mut nothing = [0u8; 1];
-        return holds(q, 0, s, keys, &lowest, &mut nothing, class);
-    }
-    if q.len() <= 64 {
-        let mut little = [0u8; 16384];
-        return holds(q, 0, s, keys, &lowest, &mut little, class);
-    }
-    let mut known = [0u8; 65536];
-    holds(q, 0, s, keys, &lowest, &mut known, class)
+    let k = class.index();
+    let mut answers = [false; 1024];
+    let Filled::Done = put_answers(q, depth, s, keys, k, k + 1, &mut answers) else {
+        return Asked::Refused(Refusal::Question);
+    };
+    Asked::Said(answers[k])
 }
 
-// Whether it holds at each class: "A question at an item of a summary is asked at its mapped class", so each class is asked once.
-pub fn put_answers(q: &[u8], depth: usize, s: &[u8], keys: &[u64], answers: &mut [bool]) -> Filled
-    requires { ⌜ (wellFormedFile (now s) ≡ true) × (length (now keys) ≡ 4096) × Keyed true (summaryIn (now s)) (now keys) × (length (now answers) ≡ 1024) ⌝ }
-    ensures { λ r. ⌜ Answers (now (q .entry)) (summaryIn (now (s .entry))) r (now (answers .exit)) ⌝ }
+// Whether it holds at each class from `from` up to `to`: "A question at an item of a summary is asked at its mapped class", so each class is
+// asked once. Where no at-least stands inside another, nothing is worth keeping; and a question of 16 entries needs less room, which is
+// quicker cleared.
+pub fn put_answers(
+    q: &[u8],
+    depth: usize,
+    s: &[u8],
+    keys: &[u64],
+    from: usize,
+    to: usize,
+    answers: &mut [bool],
+) -> Filled
+    requires { ⌜ (wellFormedFile (now s) ≡ true) × (length (now keys) ≡ 4096) × Keyed true (summaryIn (now s)) (now keys) × (to ≤ length (summaryIn (now s) .classes)) × (length (now answers) ≡ 1024) ⌝ }
+    ensures { λ r. ⌜ Answers (now (q .entry)) (summaryIn (now (s .entry))) from to r (now (answers .exit)) ⌝ }
 {
     let mut lowest = [0u16; 1024];
     window::put_lowest(s, &mut lowest);
     if depth < 2 {
         let mut nothing = [0u8; 1];
-        return put_each(q, s, keys, &lowest, &mut nothing, answers);
+        return put_each(q, s, keys, &lowest, &mut nothing, from, to, answers);
     }
     if q.len() <= 64 {
         let mut little = [0u8; 16384];
-        return put_each(q, s, keys, &lowest, &mut little, answers);
+        return put_each(q, s, keys, &lowest, &mut little, from, to, answers);
     }
     let mut known = [0u8; 65536];
-    put_each(q, s, keys, &lowest, &mut known, answers)
+    put_each(q, s, keys, &lowest, &mut known, from, to, answers)
 }
 
 // Class by class.
@@ -71,14 +74,15 @@ fn put_each(
     keys: &[u64],
     lowest: &[u16],
     known: &mut [u8],
+    from: usize,
+    to: usize,
     answers: &mut [bool],
 ) -> Filled
-    requires { ⌜ Consulted (now s) (now keys) (now lowest) × Remembers (now q) (summaryIn (now s)) (now known) × (length (now answers) ≡ 1024) ⌝ }
-    ensures { λ r. ⌜ Answers (now (q .entry)) (summaryIn (now (s .entry))) r (now (answers .exit)) ⌝ }
+    requires { ⌜ Consulted (now s) (now keys) (now lowest) × Remembers (now q) (summaryIn (now s)) (now known) × (to ≤ length (summaryIn (now s) .classes)) × (length (now answers) ≡ 1024) ⌝ }
+    ensures { λ r. ⌜ Answers (now (q .entry)) (summaryIn (now (s .entry))) from to r (now (answers .exit)) ⌝ }
 {
-    let c = reader::classes(s);
-    let mut k = 0;
-    while k < c {
+    let mut k = from;
+    while k < to {
         let Asked::Said(yes) = holds(q, 0, s, keys, lowest, known, Class(k as u16)) else {
             return Filled::Refused(Refusal::Question);
         };

@@ -1,28 +1,30 @@
 -- The class links of keys in order are the class links of the summary: they ascend, are in range, and join what the register's links
 -- join. Then one turn of the loop that writes them. Leans on theory's `links-one` and on order's `sorted`.
 use mathlib.Core.Path.{_≡_, refl, sym, ap, _∙_}
-use mathlib.Core.Bool.{Bool, true, false, cond, _||_}
+use mathlib.Core.Bool.{Bool, true, false, cond, _||_, or-false, or-assoc, or-comm, or-self-left}
 use mathlib.Core.List.{List, [], _∷_, _++_, append-assoc, append-nil}
 use Prim.Native.Nat.{ℕ, zero, suc, _+_, _*_, _/_, _%_, _≤_, _<_, min, max}
 use native.Mathlib.Omega.{arith}
 use native.Mathlib.Numerals.{add-one}
-use borrow.Author.Tests.{le-leb, leb-true, ltb-true, ltb-false}
+use borrow.Author.Tests.{le-leb, lt-leb, leb-true, ltb-true, ltb-false}
 use lib.Dec.{leb, ltb}
 use lib.ListN.{length, getD, set, take, drop, length-append, drop-of-length-le}
 use lib.Seq.{sets, sets-eq, length-sets, take-suc, drop-cons, take-at, length-take-le, getD-take}
-use Rattle.meaning.specs.Count.{tab, any, total, ascends, Every}
+use Rattle.meaning.specs.Count.{tab, any, ascends, Every}
 use Rattle.meaning.specs.Register.{Link, Register, items, noLink, linkOf, LinkFine, Fine}
 use Rattle.meaning.specs.Level.{classCount}
 use Rattle.meaning.specs.Summary.{joins}
 use Rattle.meaning.specs.Condense.{by, linksFrom}
 use Rattle.meaning.specs.WellFormed.{linkKey}
-use Rattle.theory.proofs.CountLaws.{by-bool, by-eq, no, bool-iff, length-tab, every-join, every-at, every-getD, any-append, any-some, any-join, any-joined, any-total}
-use Rattle.theory.proofs.CountLaws.{total-any, total-same, total-tab, total-places, Rising, rising-from, rising-to, rising-join, rising-ascends}
+use Rattle.theory.proofs.CountLaws.{by-bool, by-eq, no, bool-iff, length-tab, getD-tab, any-at, every-join, every-at, any-append, any-some, any-join, any-joined}
+use Rattle.theory.proofs.CountLaws.{Rising, rising-from, rising-to, rising-join, rising-ascends}
 use Rattle.theory.proofs.MatchLaws.{joins-parts, joins-make}
+use Rattle.theory.proofs.NumberLaws.{getD-below}
 use Rattle.theory.proofs.OneLaws.{BetweenFine, links-one}
+use Rattle.theory.proofs.ShapeLaws.{accepted-fine, any-place}
 use Rattle.meaning.specs.Bytes.{pack}
 use Rattle.meaning.specs.RegisterFile.{registerIn}
-use Rattle.promise.proofs.Access.{links-at, readable}
+use Rattle.promise.proofs.Promise.{fault-accepted}
 use Rattle.register.specs.Told.{OfRegister}
 use Rattle.order.specs.Sorted.{into, sorted, Ascends}
 use Rattle.order.proofs.Laws.{length-sorted, sorted-ascends}
@@ -33,16 +35,7 @@ use Rattle.edges.specs.Keys.{classLinks, keyOf, unkeyed, distinct}
 -- ---- a sorted list has the members of the list
 
 or-swap : (s t u : Bool) → s || (t || u) ≡ t || (s || u)
-or-swap true true u = refl
-or-swap true false u = refl
-or-swap false true u = refl
-or-swap false false u = refl
-
-or-last : (s t : Bool) → s || t ≡ t || (s || false)
-or-last true true = refl
-or-last true false = refl
-or-last false true = refl
-or-last false false = refl
+or-swap s t u = sym (or-assoc s t u) ∙ ap (λ (b : Bool). b || u) (or-comm s t) ∙ or-assoc t s u
 
 module _ (p : ℕ → Bool) where
   any-into : (x : ℕ) (l : List ℕ) → any p (into x l) ≡ p x || any p l
@@ -66,8 +59,8 @@ module _ (p : ℕ → Bool) where
   any-sorted l zero h = refl
   any-sorted l (suc n) h =
       let e : n < length l = omega arith in
-      rw (take-suc l n 0 e, any-append p (take n l), any-into (getD l n 0) (sorted l n), any-sorted l n (omega arith))
-      (or-last (p (getD l n 0)) (any p (take n l)))
+      rw (take-suc l n 0 e, any-append p (take n l), any-into (getD l n 0) (sorted l n), any-sorted l n (omega arith), or-false (p (getD l n 0)))
+      (or-comm (p (getD l n 0)) (any p (take n l)))
 
 module _ (P : ℕ → Type 0) where
   every-into : (x : ℕ) (l : List ℕ) → P x → Every P l → Every P (into x l)
@@ -97,23 +90,15 @@ module _ (P : ℕ → Type 0) where
 abbrev ranked : ℕ → ℕ
 ranked v = (v / 16384 * 65536 + v / 1024 % 16) * 65536 + v % 1024
 
-in-order : (a b c x y z : ℕ) → b < 16 → c < 1024 → y < 16 → z < 1024 → (a * 16 + b) * 1024 + c < (x * 16 + y) * 1024 + z →
-    (a * 65536 + b) * 65536 + c < (x * 65536 + y) * 65536 + z
-in-order a b c x y z hb hc hy hz h =
-    by-eq (a * 16 + b) (x * 16 + y)
-    (λ e. let f : a ≡ x = omega arith in let g : b ≡ y = omega arith in omega arith)
-    (λ e. let f : a * 16 + b < x * 16 + y = omega arith in by-eq a x (λ g. omega arith) (λ g. omega arith))
-
-key-parts : (v : ℕ) → v ≡ (v / 16384 * 16 + v / 1024 % 16) * 1024 + v % 1024
-key-parts v = omega arith
-
 ranked-up : (v w : ℕ) → v < w → ranked v < ranked w
 ranked-up v w h =
-    in-order (v / 16384) (v / 1024 % 16) (v % 1024) (w / 16384) (w / 1024 % 16) (w % 1024) (omega arith) (omega arith) (omega arith) (omega arith)
-    (below (key-parts v) (key-parts w) h)
-  where
-    below : {a b x y : ℕ} → a ≡ x → b ≡ y → a < b → x < y
-    below e f g = omega arith
+    by-eq (v / 1024) (w / 1024)
+    (λ e. omega arith)
+    (λ e.
+    let g : v / 1024 < w / 1024 = omega arith in
+    by-eq (v / 16384) (w / 16384)
+    (λ f. let k : v / 1024 % 16 < w / 1024 % 16 = omega arith in omega (arith, f, k))
+    (λ f. let k : v / 16384 < w / 16384 = omega arith in omega (arith, k)))
 
 -- what every key is, its class link is
 every-distinct : (P : Link → Type 0) (least : ℕ) (s : List ℕ) → Every (λ v. P (unkeyed v)) s → Every P (distinct least s)
@@ -133,10 +118,6 @@ distinct-rises least lo (v ∷ s) g h k =
     (λ t. rw t (distinct-rises least lo s g (h .1) k))
 
 -- a key left out is the key that counted last: y
-or-more : (s t u : Bool) → s || t ≡ s || u → s || t ≡ s || (s || u)
-or-more true t u e = refl
-or-more false t u e = e
-
 module _ (q : Link → Bool) where
   any-after : (y : ℕ) (s : List ℕ) → Ascends y s → q (unkeyed y) || any q (distinct (suc y) s) ≡ q (unkeyed y) || any (λ v. q (unkeyed v)) s
   unfolding distinct any
@@ -144,9 +125,9 @@ module _ (q : Link → Bool) where
   any-after y (v ∷ s) h =
       by-eq y v
       (λ e.
-      let t : leb (suc y) v ≡ false = by-bool (leb (suc y) v) (λ f. absurd (omega (arith, leb-true (suc y) v f))) (λ f. f) in
+      let t : leb (suc y) v ≡ false = lt-leb (suc y) v (omega arith) in
       let a : Ascends y s = rw e (h .1) in
-      rw (t, ← e) (or-more (q (unkeyed y)) (any q (distinct (suc y) s)) (any (λ v. q (unkeyed v)) s) (any-after y s a)))
+      rw (t, ← e) (any-after y s a ∙ sym (or-self-left (q (unkeyed y)) (any (λ v. q (unkeyed v)) s))))
       (λ e.
       let t : leb (suc y) v ≡ true = le-leb (suc y) v (omega (arith, h .0, e)) in
       rw t (ap (λ (b : Bool). q (unkeyed y) || b) (any-after v s (h .1))))
@@ -161,16 +142,10 @@ module _ (q : Link → Bool) where
 key-tells : (a b c : ℕ) → b < 16 → c < 1024 → let v = (a * 16 + b) * 1024 + c in (v / 16384 ≡ a) × (v / 1024 % 16 ≡ b) × (v % 1024 ≡ c)
 key-tells a b c h k = (omega arith, omega arith, omega arith)
 
-below-count : (cs : List ℕ) (x : ℕ) → x < length cs → getD cs x 0 < classCount cs
-unfolding classCount
-below-count [] x h = absurd (omega arith)
-below-count (k ∷ ks) zero h = omega arith
-below-count (k ∷ ks) (suc x) h = omega (arith, below-count ks x (omega arith))
-
 -- what the class list says of an item
 pub class-read : (classes : List ℕ) (n x v : ℕ) → n ≤ length classes → classCount (take n classes) ≤ 1024 → x < n → v ≡ x → (getD classes v 0 ≡ by (take n classes) x) × (getD classes v 0 < 1024)
 class-read classes n x v h few u e =
-    let a = below-count (take n classes) x (omega (arith, length-take-le n classes h)) in
+    let a = getD-below (take n classes) x (omega (arith, length-take-le n classes h)) in
     let b : getD classes v 0 ≡ by (take n classes) x = rw e (sym (getD-take n classes x 0 u)) in
     (b, omega arith)
 
@@ -179,23 +154,12 @@ pub key-read : (cs : List ℕ) (a : Link) (x l y : ℕ) → x ≡ by cs (a .sour
 unfolding keyOf
 key-read cs a x l y e f g = rw (e, f, g)
 
-every-one : {A : Type 0} (s : List A) → Every (λ a. Unit {0}) s
-unfolding Every
-every-one [] = tt
-every-one (a ∷ s) = (tt, every-one s)
-
-any-count : {A : Type 0} (p : A → Bool) (s : List A) → any p s ≡ leb 1 (total (λ a. cond (p a) 1 0) s)
-any-count p s =
-    bool-iff (any p s) (leb 1 (total (λ a. cond (p a) 1 0) s))
-    (λ e. le-leb 1 (total (λ a. cond (p a) 1 0) s) (any-total {P = λ a. Unit {0}} p (λ a. 1) s (every-one s) (λ a h. omega arith) e))
-    (λ e. total-any p (λ a. 1) s (leb-true 1 (total (λ a. cond (p a) 1 0) s) e))
-
 module _ (R : Register) (fine : Fine R) (cs : List ℕ) (long : length cs ≡ items R) (few : classCount cs ≤ 1024) where
   abbrev c : ℕ
   c = classCount cs
 
   ends-below : (a : Link) → LinkFine R a → (by cs (a .source) < c) × (a .label < 16) × (by cs (a .target) < c)
-  ends-below a h = (below-count cs (a .source) (omega (arith, h .0)), h .1, below-count cs (a .target) (omega (arith, h .2)))
+  ends-below a h = (getD-below cs (a .source) (omega (arith, h .0)), h .1, getD-below cs (a .target) (omega (arith, h .2)))
 
   key-small : (a : Link) → LinkFine R a → keyOf cs a < 16777216
   unfolding keyOf
@@ -219,12 +183,16 @@ module _ (R : Register) (fine : Fine R) (cs : List ℕ) (long : length cs ≡ it
   keys-join : (k l k′ : ℕ) → any (λ v. joins (λ x. x) k l k′ (unkeyed v)) (tab (λ i. keyOf cs (linkOf R i)) (length (R .links))) ≡ any (joins (by cs) k l k′) (R .links)
   unfolding linkOf Fine
   keys-join k l k′ =
-      any-count _ (tab (λ i. keyOf cs (linkOf R i)) (length (R .links)))
-      ∙ ap (leb 1)
-      (total-tab (λ v. cond (joins (λ x. x) k l k′ (unkeyed v)) 1 0) (λ i. keyOf cs (linkOf R i)) (length (R .links))
-      ∙ sym (total-places (λ a. cond (joins (λ x. x) k l k′ (unkeyed (keyOf cs a))) 1 0) noLink (R .links))
-      ∙ total-same _ _ (R .links) fine (λ a h. ap (λ (t : Bool). cond {A = ℕ} t 1 0) (key-joins k l k′ a h)))
-      ∙ sym (any-count (joins (by cs) k l k′) (R .links))
+      let p : ℕ → Bool = λ v. joins (λ x. x) k l k′ (unkeyed v) in
+      let q : Link → Bool = joins (by cs) k l k′ in
+      let m : ℕ = length (R .links) in
+      let keys : List ℕ = tab (λ i. keyOf cs (linkOf R i)) m in
+      let long : length keys ≡ m = length-tab _ m in
+      let same : (i : ℕ) → i < m → p (getD keys i 0) ≡ q (linkOf R i) =
+      λ i h. ap p (getD-tab _ 0 m i h) ∙ key-joins k l k′ (linkOf R i) (every-at (LinkFine R) noLink (R .links) fine i h) in
+      bool-iff (any p keys) (any q (R .links))
+      (λ e. let r = any-place p 0 keys e in let h : r .0 < m = rw long at (r .1) in any-at q noLink (R .links) (r .0) h (sym (same (r .0) h) ∙ r .2))
+      (λ e. let r = any-place q noLink (R .links) e in any-at p 0 keys (r .0) (rw long (r .1)) (same (r .0) (r .1) ∙ r .2))
 
   -- ---- the class links of the summary: in range, ascending, and joining the same
 
@@ -265,12 +233,8 @@ module _ (R : Register) (fine : Fine R) (cs : List ℕ) (long : length cs ≡ it
   one-joins : (k l k′ x y z : ℕ) (t : Bool) → joined x y z ≡ t → any (joins (λ x. x) k l k′) (cond t (record { source = x; label = y; target = z } ∷ []) []) ≡ true → joined k l k′ ≡ true
   unfolding any
   one-joins k l k′ x y z true f e =
-      let w = joins-parts (λ x. x) k l k′ (record { source = x; label = y; target = z }) (clear _ e) in
+      let w = joins-parts (λ x. x) k l k′ (record { source = x; label = y; target = z }) (sym (or-false _) ∙ e) in
       rw (w .0, w .1, w .2) at f
-    where
-      clear : (t : Bool) → t || false ≡ true → t ≡ true
-      clear true e = refl
-      clear false e = e
   one-joins k l k′ x y z false f e = no e refl
 
   own : (k l k′ : ℕ) (t : Bool) → t ≡ true → any (joins (λ x. x) k l k′) (cond t (record { source = k; label = l; target = k′ } ∷ []) []) ≡ true
@@ -332,12 +296,11 @@ module _ (R : Register) (fine : Fine R) (cs : List ℕ) (long : length cs ≡ it
 
 -- ---- the same of a file: a is the keys and what is behind them, s is a with its keys in order
 
-links-good : (b : List ℕ) (n m : ℕ) → OfRegister b n m → Fine (registerIn b)
-unfolding Fine linkOf
-links-good b n m r = every-getD (LinkFine (registerIn b)) noLink (registerIn b .links) (λ i u. readable b (r .fine) .ends i (omega (arith, links-at b)))
-
 module _ (b classes : List ℕ) (n m : ℕ) (r : OfRegister b n m) (h : n ≤ length classes) (few : classCount (take n classes) ≤ 1024) (a s rest : List ℕ)
     (keys : a ≡ tab (λ k. keyOf (take n classes) (linkOf (registerIn b) k)) m ++ rest) (in-order : s ≡ sorted a m ++ drop m a) where
+  fine : Fine (registerIn b)
+  fine = accepted-fine (registerIn b) (fault-accepted b (r .fine))
+
   long : length (take n classes) ≡ items (registerIn b)
   long = length-take-le n classes h ∙ r .items-are
 
@@ -345,10 +308,10 @@ module _ (b classes : List ℕ) (n m : ℕ) (r : OfRegister b n m) (h : n ≤ le
   taken = ap (take m) in-order ∙ take-at (sorted a m) (drop m a) m (length-sorted a m)
 
   pub keys-small : Every (λ v. v < 16777216) (take m s)
-  keys-small = rw taken (sorted-small (registerIn b) (links-good b n m r) (take n classes) long few a rest m (r .links-are) keys)
+  keys-small = rw taken (sorted-small (registerIn b) fine (take n classes) long few a rest m (r .links-are) keys)
 
   made : distinct 0 (take m s) ≡ classLinks (registerIn b) (take n classes)
-  made = ap (distinct 0) taken ∙ class-links (registerIn b) (links-good b n m r) (take n classes) long few a rest m (r .links-are) keys
+  made = ap (distinct 0) taken ∙ class-links (registerIn b) fine (take n classes) long few a rest m (r .links-are) keys
 
   pub made-all : (x : ℕ) (out : List ℕ) → (x ≡ length (distinct 0 (take m s))) × (take (3 * x) out ≡ pack edgeNumbers (distinct 0 (take m s))) →
       (x ≡ length (classLinks (registerIn b) (take n classes))) × (take (3 * x) out ≡ pack edgeNumbers (classLinks (registerIn b) (take n classes)))
@@ -380,7 +343,7 @@ module _ (s out : List ℕ) (i least r v : ℕ) (h : i < length s) (e : v ≡ ge
   pub written-skip : v < least → Written s out (i + 1) least r
   unfolding distinct
   written-skip u =
-      let t : leb least (getD s i 0) ≡ false = by-bool (leb least (getD s i 0)) (λ f. absurd (omega (arith, leb-true least (getD s i 0) f))) (λ f. f) in
+      let t : leb least (getD s i 0) ≡ false = lt-leb least (getD s i 0) (omega arith) in
       let d : distinct least (drop i s) ≡ distinct least (drop (i + 1) s) = rw (drop-cons s i 0 h, t, add-one i) in
       record { many = rw d at (w .many); numbers = rw d at (w .numbers) }
 

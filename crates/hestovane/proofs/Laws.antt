@@ -3,7 +3,6 @@
 use mathlib.Core.Path.{_≡_, refl, sym, ap, subst, _∙_}
 use mathlib.Core.Bool.{Bool, true, false, cond}
 use mathlib.Core.List.{List}
-use mathlib.Core.Option.{Option, none, some}
 use Prim.Native.Nat.{ℕ, zero, suc, _≤_, _<_}
 use native.Mathlib.Omega.{arith}
 use borrow.Author.Tests.{lt-ltb, le-ltb}
@@ -14,9 +13,8 @@ use Rattle.meaning.specs.WellFormed.{inRange}
 use Rattle.meaning.specs.Check.{fits}
 use Rattle.meaning.specs.Condense.{summaryOf}
 use Rattle.meaning.specs.RegisterFile.{registerIn, fault, verdict, verdictBy, accepted, refused}
-use Rattle.meaning.specs.RegisterFile as file
 use Rattle.meaning.specs.QuestionFile.{question}
-use Rattle.meaning.specs.Answers.{Answer, Returned, number, word, wrote, returned, left, into, unless, condense, check, askTree, askRegister}
+use Rattle.meaning.specs.Answers.{Answer, number, word, wrote, returned, left, into, unless, condense, check, askTree, askRegister}
 use Rattle.meaning.specs.Answers
 use Rattle.meaning.specs.SummaryFile.{summaryBytes, summaryIn, wellFormedFile}
 use Rattle.meaning.specs.Refusals.{numberOf}
@@ -28,12 +26,10 @@ use Rattle.said.specs.Written.{Gives}
 use Rattle.said.specs.declared.Wrote.{Wrote}
 use Rattle.said.specs.declared.Wrote.the-variants as writes
 use Rattle.promise.proofs.Promise.{summary-most, in-range}
-use Rattle.promise.proofs.Access.{items-at, links-at, accepted-so, refused-so}
+use Rattle.promise.proofs.Access.{items-at, links-at, accepted-so}
 use Rattle.question.specs.Read as read
 use Rattle.question.proofs.Laws.{verdict-accepted, verdict-refused}
 use Rattle.register.specs.Told.{OfRegister}
-use Rattle.question.specs.declared.Asked.{Asked}
-use Rattle.question.specs.declared.Asked.the-variants as asks
 use Rattle.inquiry.specs.Known.{Whole, asked}
 use Rattle.said.specs.Written.{Short}
 
@@ -89,13 +85,6 @@ module _ (b q : List ℕ) (x : ℕ) where
 -- a question that is not refused has a tree
 pub whole : (q : List ℕ) (d t : ℕ) → read.accepted d t ≡ read.verdict q → Whole q
 whole q d t e = let s = verdict-accepted q d t e in record { tree = s .0; reads = s .1 }
-
--- what is said is not refused
-pub never-refused : (a : Asked) (b : Bool) (r : Refusal) → a ≡ asks.Said b → a ≡ asks.Refused r → ⊥
-never-refused a b r e f = let z : _≡_ {A = ℕ} 0 1 = cc in omega arith
-
-pub same-word : (a : Asked) (s t : Bool) → a ≡ asks.Said s → a ≡ asks.Said t → s ≡ t
-same-word a s t e f = cc
 
 -- ---- checking
 

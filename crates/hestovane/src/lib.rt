@@ -181,7 +181,8 @@ fn list_read(
         return Wrote::Refused(Refusal::Beyond);
     }
     let mut answers = [false; 1024];
-    let Filled::Done = consult::put_answers(q, depth, s, keys, &mut answers) else {
+    let c = reader::classes(s);
+    let Filled::Done = consult::put_answers(q, depth, s, keys, 0, c, &mut answers) else {
         return Wrote::Refused(Refusal::Question);
     };
     let mut named = [0u16; 1024];

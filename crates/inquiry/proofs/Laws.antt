@@ -29,8 +29,6 @@ use Rattle.question.specs.declared.Spanned.the-variants.{Tree, Refused}
 use Rattle.question.specs.Read.{Parsed, Spans}
 use Rattle.question.proofs.Laws.{forward, ends, parsed-true, parsed-literal, parsed-not, parsed-and, parsed-or, parsed-least, parsed-one, parsed-question, question-length, everywhere, every-entry}
 use Rattle.table.specs.Row.{row, Writes, paired}
-use Rattle.question.specs.declared.Filled.{Filled}
-use Rattle.question.specs.declared.Filled.the-variants.{Done, Refused as NotFilled}
 use Rattle.question.specs.declared.Asked.{Asked}
 use Rattle.question.specs.declared.Asked.the-variants.{Said}
 use Rattle.memo.specs.Kept.{Tells}
@@ -168,7 +166,3 @@ module _ (q : List ℕ) (w : Whole q) where
 -- the links of an accepted register are in range
 pub register-fine : (b : List ℕ) → fault b ≡ 0 → Fine (registerIn b)
 register-fine b e = accepted-fine (registerIn b) (fault-accepted b e)
-
--- what is done is not refused
-pub not-refused : (s : Filled) (r : Refusal) → s ≡ Done → s ≡ NotFilled r → ⊥
-not-refused s r e f = let z : _≡_ {A = ℕ} 0 1 = cc in omega arith

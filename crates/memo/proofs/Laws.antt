@@ -79,7 +79,8 @@ two-or-one : (b : Bool) → eqb (tell b) 2 ≡ b
 two-or-one true = refl
 two-or-one false = refl
 
-zeros : (n j : ℕ) → _≡_ {A = ℕ} (getD (replicate n 0) j 0) 0
+-- a list of zeros is zero anywhere
+pub zeros : (n j : ℕ) → _≡_ {A = ℕ} (getD (replicate n 0) j 0) 0
 zeros n j = by-lt j n (getD-replicate {A = ℕ} n j 0 0) (λ h. List·getD-eq-default (replicate n 0) 0 (omega (arith, h, length-replicate {A = ℕ} n 0)))
 
 pub remembers-none : (q : List ℕ) (truth : Question → ℕ → Bool) (n : ℕ) → n ≤ 65536 → Remembers q truth (replicate n 0)

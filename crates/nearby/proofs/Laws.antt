@@ -8,7 +8,7 @@ use Prim.Native.Nat.{ℕ, zero, suc, _+_, _-_, _≤_, _<_}
 use native.Mathlib.Omega.{arith}
 use borrow.Author.Tests.{ltb-true, ltb-false, eq-eqb, ne-eqb}
 use lib.Dec.{eqb, ltb}
-use lib.ListN.{length, getD, set, replicate, length-set}
+use lib.ListN.{length, getD, set, length-set}
 use lib.Seq.{getD-set-same, getD-set-other}
 use Rattle.meaning.specs.Count.{sum, tally, each, ascends}
 use Rattle.meaning.specs.Register.{Register, noLink, items, linkOf, near, far, leads, neighbours}
@@ -244,12 +244,7 @@ module _ (b : List ℕ) (n m x : ℕ) (o : OfRegister b n m) (c : List ℕ) wher
       Last (registerIn b) Incoming x k (getD c (1024 + k) 0)
   read-next k s long h e = rw (← e) (s .nexts long k (omega (arith, o .links-are)))
 
--- ---- for a caller: a list of zeros to fill, and a list too short to say anything
-
-pub zeros : (n i : ℕ) → getD {A = ℕ} (replicate n 0) i 0 ≡ 0
-zeros zero i = refl
-zeros (suc n) zero = refl
-zeros (suc n) (suc i) = zeros n i
+-- ---- for a caller: a list too short to say anything
 
 pub no-outs : (R : Register) (c : List ℕ) → length c < 1024 → Outs R c
 no-outs R c h = record { are = λ long x u. absurd (omega arith) }

@@ -15,11 +15,16 @@ use Rattle.meaning.specs.Reading.{entriesOf}
 use Rattle.meaning.specs.declared.Direction.{Direction}
 use Rattle.meaning.specs.declared.Kind.{Kind}
 use Rattle.meaning.specs.declared.Kind.the-variants.{True, Literal, Not, And, Or, AtLeast}
+use Rattle.meaning.specs.declared.Refusal.{Refusal}
 use Rattle.meaning.specs.QuestionFile.{kind, andKind, kinds, treeOf, question}
 use Rattle.theory.proofs.CountLaws.{by-bool, by-eq}
 use Rattle.theory.proofs.ReadingLaws.{tree-sound, tree-complete}
 use Rattle.entry.specs.Entries.{entryAt}
 use Rattle.entry.proofs.Laws.{same-kind, within-question}
+use Rattle.question.specs.declared.Asked.{Asked}
+use Rattle.question.specs.declared.Asked.the-variants as asks
+use Rattle.question.specs.declared.Filled.{Filled}
+use Rattle.question.specs.declared.Filled.the-variants as fills
 use Rattle.question.specs.Read.{Parsed, p-true, p-literal, p-not, p-and, p-or, p-least, accepted, refused, verdictBy, verdict}
 
 -- ---- where a tree that stands at an entry ends
@@ -323,3 +328,14 @@ verdict-accepted q d t e = accepts (question q) d t e
 pub verdict-refused : (q : List ℕ) (k : ℕ) → refused k ≡ verdict q → (question q ≡ none) × (k ≡ 5)
 unfolding verdict
 verdict-refused q k e = refuses (question q) k e
+
+-- ---- what is said is said once, and is not refused
+
+pub said-one : (a : Asked) (s t : Bool) → a ≡ asks.Said s → a ≡ asks.Said t → s ≡ t
+said-one a s t e f = cc
+
+pub not-refused : (a : Asked) (s : Bool) (r : Refusal) → a ≡ asks.Said s → a ≡ asks.Refused r → ⊥
+not-refused a s r e f = let z : _≡_ {A = ℕ} 0 1 = cc in omega arith
+
+pub done-not-refused : (f : Filled) (r : Refusal) → f ≡ fills.Done → f ≡ fills.Refused r → ⊥
+done-not-refused f r e g = let z : _≡_ {A = ℕ} 0 1 = cc in omega arith

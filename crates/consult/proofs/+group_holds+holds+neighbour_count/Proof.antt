@@ -6,16 +6,17 @@ use Prim.Native.Nat.{ℕ, _+_, _-_, _*_, _/_, _≤_, _<_}
 use native.Mathlib.Omega.{arith}
 use lib.IntN.{ℤ}
 use lib.ListN.{length, getD}
-use Rattle.meaning.specs.Summary.{rowOf, lowestClass}
+use Rattle.meaning.specs.Summary.{lowestClass}
 use Rattle.meaning.specs.declared.Kind.the-variants.{Literal}
 use Rattle.meaning.specs.SummaryFile.{summaryIn}
 use Rattle.entry.specs.Entries.{entryAt}
 use Rattle.entry.proofs.Laws.{is-entry, within-entry, literal-back, literal-read, least-read}
-use Rattle.question.proofs.Steps.{Two, two-of}
+use Rattle.question.proofs.Laws.{not-refused}
+use Rattle.question.proofs.Steps.{two-of}
 use Rattle.reader.specs.Sized.{HasRow}
-use Rattle.header.proofs.File.{well-file, sized-file}
+use Rattle.header.proofs.File.{well-file}
 use Rattle.consult.specs.Consulted.{Holds, Remembers}
-use Rattle.consult.proofs.Laws.{holds-none, holds-true, holds-literal, holds-not, holds-first, holds-second, holds-unspanned, holds-least, Summed, summed-none, summed-all, counts-unasked, one-summed, sum-most, added-most, row-grouped, group-few, lowest-asked, not-refused, recalled-holds, holds-kept}
+use Rattle.consult.proofs.Laws.{holds-none, holds-true, holds-literal, holds-not, holds-first, holds-second, holds-unspanned, holds-least, Summed, summed-none, summed-all, counts-unasked, one-summed, sum-most, added-most, row-grouped, group-few, lowest-asked, recalled-holds, holds-kept}
 use Rattle.memo.proofs.Laws.{spans-on}
 use borrow.Author.Needs.{needs}
 use borrow.Fn.Kinds.{In}

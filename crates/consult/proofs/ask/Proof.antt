@@ -1,76 +1,54 @@
--- The lowest classes are put, and the question is asked from entry 0 with nothing known yet.
+-- The class is asked alone, and its word is the answer.
 use native.Mathlib.Omega.{arith}
-use Rattle.memo.proofs.Laws.{remembers-none}
+use Rattle.wellformed.proofs.Laws.{sized-file}
+use Rattle.consult.proofs.Laws.{alone-answered, alone-refused}
 use borrow.Author.Needs.{needs}
 use Rattle.consult.proofs.ask.Statement.{statement}
 use Rattle.consult.proofs.ask.Tie as tie
 
-slice-aggregate-put-lowest : tie.Need-slice-aggregate-put-lowest
-slice-aggregate-put-lowest c = search needs
+index-requires : tie.Need-index-requires
+index-requires c κs = search needs
 
-put-lowest-requires : tie.Need-put-lowest-requires
-put-lowest-requires c κs = (c .before .before .before .before .pre .0, search needs)
+add-put-answers : tie.Need-add-put-answers
+add-put-answers c = search needs
 
-slice-aggregate-holds : tie.Need-slice-aggregate-holds
-slice-aggregate-holds c = search needs
+slice-aggregate-put-answers : tie.Need-slice-aggregate-put-answers
+slice-aggregate-put-answers c = search needs
 
-slice-aggregate-holds-2 : tie.Need-slice-aggregate-holds-2
-slice-aggregate-holds-2 c = search needs
+put-answers-requires : tie.Need-put-answers-requires
+put-answers-requires c κs = search needs
 
-holds-requires : tie.Need-holds-requires
-holds-requires c κs =
-    let s = c .before .before .before .before .before .before .before .before .before .pre in
-    let low = c .before .before .before .before .put-lowest .ensures in
-    (record { well = s .0; keys-long = s .1; kept = s .2; lowest-long = low .0; lowest-are = low .1 }, remembers-none _ _ 1 (omega arith), s .3)
+enum-told : tie.Need-enum-told
+enum-told c = search needs
+
+enum-told-2 : tie.Need-enum-told-2
+enum-told-2 c = search needs
 
 returns : tie.Need-returns
-returns c = c .before .holds .ensures .0
+returns c =
+    let p = c .before .before .before in
+    alone-refused _ _ _ _ (p .before .before .index .ensures) _ (p .put-answers .last .1 .1 .1 .1 .1 .1 .0) (p .put-answers .ensures) _ _ (c .enum-told2 .given .1)
 
-slice-aggregate-holds-3 : tie.Need-slice-aggregate-holds-3
-slice-aggregate-holds-3 c = search needs
-
-slice-aggregate-holds-4 : tie.Need-slice-aggregate-holds-4
-slice-aggregate-holds-4 c = search needs
-
-holds-requires-2 : tie.Need-holds-requires-2
-holds-requires-2 c κs =
-    let s = c .before .before .before .before .before .before .before .before .before .before .pre in
-    let low = c .before .before .before .before .before .put-lowest .ensures in
-    (record { well = s .0; keys-long = s .1; kept = s .2; lowest-long = low .0; lowest-are = low .1 }, remembers-none _ _ 16384 (omega arith), s .3)
+array-read-t15 : tie.Need-array-read-t15
+array-read-t15 c =
+    let s = c .before .before .before .before .before .before .before .before .before .pre in
+    omega (arith, c .before .before .before .before .before .index .ensures, s .3, sized-file _ (s .0) .few-classes)
 
 returns-2 : tie.Need-returns-2
-returns-2 c = c .before .holds2 .ensures .0
-
-slice-aggregate-holds-5 : tie.Need-slice-aggregate-holds-5
-slice-aggregate-holds-5 c = search needs
-
-slice-aggregate-holds-6 : tie.Need-slice-aggregate-holds-6
-slice-aggregate-holds-6 c = search needs
-
-holds-requires-3 : tie.Need-holds-requires-3
-holds-requires-3 c κs =
-    let s = c .before .before .before .before .before .before .before .before .before .before .pre in
-    let low = c .before .before .before .before .before .put-lowest .ensures in
-    (record { well = s .0; keys-long = s .1; kept = s .2; lowest-long = low .0; lowest-are = low .1 }, remembers-none _ _ 65536 (omega arith), s .3)
-
-returns-3 : tie.Need-returns-3
-returns-3 c = c .before .holds3 .ensures .0
+returns-2 c =
+    let p = c .before .before .before in
+    alone-answered _ _ _ _ (p .before .before .index .ensures) _ (p .put-answers .last .1 .1 .1 .1 .1 .1 .0) (p .put-answers .ensures)
 
 pub ask-spec : {M : Type 1} → statement M
 ask-spec =
     tie.close
     (tie.spec
-    slice-aggregate-put-lowest
-    put-lowest-requires
-    slice-aggregate-holds
-    slice-aggregate-holds-2
-    holds-requires
+    index-requires
+    add-put-answers
+    slice-aggregate-put-answers
+    put-answers-requires
+    enum-told
+    enum-told-2
     returns
-    slice-aggregate-holds-3
-    slice-aggregate-holds-4
-    holds-requires-2
-    returns-2
-    slice-aggregate-holds-5
-    slice-aggregate-holds-6
-    holds-requires-3
-    returns-3)
+    array-read-t15
+    returns-2)

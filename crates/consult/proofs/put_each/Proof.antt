@@ -1,10 +1,10 @@
--- The first k classes are answered.
+-- The classes from `from` up to k are answered.
 use native.Mathlib.Omega.{arith}
 use mathlib.Core.Path.{_≡_, refl}
-use Prim.Native.Nat.{_-_, _≤_, _<_}
+use Prim.Native.Nat.{_-_, _<_}
 use lib.ListN.{length, length-set}
 use Rattle.meaning.specs.SummaryFile.{summaryIn}
-use Rattle.header.proofs.File.{well-file, sized-file}
+use Rattle.header.proofs.File.{sized-file}
 use Rattle.consult.specs.Consulted.{Remembers}
 use Rattle.consult.proofs.Laws.{Answered, one-answered, not-answered}
 use borrow.Author.Needs.{needs}
@@ -12,23 +12,24 @@ use Rattle.consult.proofs.put_each.Statement.{statement}
 use Rattle.consult.proofs.put_each.Tie as tie
 
 abbrev Inv-loop : tie.InvT-loop
-Inv-loop q s keys lowest known₀ answers₀ c k₀ known answers k =
-    (k ≤ c) × Answered q (summaryIn s) answers k × (length answers ≡ length answers₀) × Remembers q (summaryIn s) known × (length known ≡ length known₀)
+Inv-loop q s keys lowest known₀ from to answers₀ k₀ known answers k =
+    Answered q (summaryIn s) from answers k × (length answers ≡ length answers₀) × Remembers q (summaryIn s) known × (length known ≡ length known₀)
 
 abbrev μ-loop : tie.MeasureT-loop
-μ-loop q s keys lowest known₀ answers₀ c k₀ known answers k = c - k
-
-classes-requires : tie.Need-classes-requires Inv-loop μ-loop
-classes-requires c κs = well-file _ (c .before .before .before .before .before .before .pre .0 .well) .0
+μ-loop q s keys lowest known₀ from to answers₀ k₀ known answers k = to - k
 
 loop-holds : tie.Need-loop-holds Inv-loop μ-loop
-loop-holds c = (omega arith, (λ t m p i h. absurd (omega arith)), refl, c .before .before .before .before .before .before .before .pre .1, refl)
+loop-holds c = ((λ t m p i l h. absurd (omega arith)), refl, c .before .before .before .before .before .before .pre .1, refl)
 
-cast-t14 : tie.Need-cast-t14 Inv-loop μ-loop
-cast-t14 c = omega (arith, c .before .loop-test .taken, c .before .before .before .classes .ensures)
+cast-t15 : tie.Need-cast-t15 Inv-loop μ-loop
+cast-t15 c =
+    let s = c .before .before .before .before .before .before .before .before .before .pre in
+    omega (arith, c .before .loop-test .taken, s .2, sized-file _ (s .0 .well) .few-classes)
 
 holds-requires : tie.Need-holds-requires Inv-loop μ-loop
-holds-requires c κs = (c .before .before .before .before .before .before .before .before .before .before .pre .0, c .before .before .loop .inv .3, omega (arith, c .before .loop-test .taken, c .before .before .before .classes .ensures))
+holds-requires c κs =
+    let s = c .before .before .before .before .before .before .before .before .before .pre in
+    (s .0, c .before .before .loop .inv .2, omega (arith, c .before .loop-test .taken, s .2))
 
 enum-known-yes : tie.Need-enum-known-yes Inv-loop μ-loop
 enum-known-yes c = search needs
@@ -40,15 +41,15 @@ same-length : tie.Need-same-length Inv-loop μ-loop
 same-length c = search needs
 
 same-length-2 : tie.Need-same-length-2 Inv-loop μ-loop
-same-length-2 c = c .before .before .before .before .before .before .before .loop .inv .2
+same-length-2 c = c .before .before .before .before .before .before .before .loop .inv .1
 
 returns : tie.Need-returns Inv-loop μ-loop
-returns c = not-answered _ _ (c .before .before .before .before .before .before .before .loop .answers) _ _ _ _ (c .before .before .before .before .holds .ensures .0) (c .enum-told .given .1)
+returns c = not-answered _ _ _ _ (c .before .before .before .before .before .before .before .loop .answers) _ _ _ _ (c .before .before .before .before .holds .ensures .0) (c .enum-told .given .1)
 
 slice-write-answers : tie.Need-slice-write-answers Inv-loop μ-loop
 slice-write-answers c =
-    let s = c .before .before .before .before .before .before .before .before .before .before .before .before .before .before .before .before .pre in
-    omega (arith, c .before .before .before .before .before .before .before .loop-test .taken, c .before .before .before .before .before .before .before .before .before .classes .ensures, sized-file _ (s .0 .well) .few-classes, s .2, c .before .before .before .before .before .before .before .before .loop .inv .2)
+    let s = c .before .before .before .before .before .before .before .before .before .before .before .before .before .before .before .pre in
+    omega (arith, c .before .before .before .before .before .before .before .loop-test .taken, s .2, sized-file _ (s .0 .well) .few-classes, s .3, c .before .before .before .before .before .before .before .before .loop .inv .1)
 
 add-k : tie.Need-add-k Inv-loop μ-loop
 add-k c = omega arith
@@ -58,20 +59,20 @@ loop-less c = omega arith
 
 loop-again : tie.Need-loop-again Inv-loop μ-loop
 loop-again c =
-    let s = c .before .before .before .before .before .before .before .before .before .before .before .before .before .before .before .before .pre in
+    let s = c .before .before .before .before .before .before .before .before .before .before .before .before .before .before .before .pre in
     let l = c .before .before .before .before .before .before .before .before .loop in
-    let h : l .k < length (l .answers) = omega (arith, c .before .before .before .before .before .before .before .loop-test .taken, c .before .before .before .before .before .before .before .before .before .classes .ensures, sized-file _ (s .0 .well) .few-classes, s .2, l .inv .2) in
+    let h : l .k < length (l .answers) = omega (arith, c .before .before .before .before .before .before .before .loop-test .taken, s .2, sized-file _ (s .0 .well) .few-classes, s .3, l .inv .1) in
     let said = c .before .before .before .before .before .holds .ensures in
-    (omega arith, one-answered _ _ (l .answers) (l .k) _ _ h (said .0) (c .before .yes .given .1) (l .inv .1), simp length-set (l .inv .2), said .1, search needs)
+    (one-answered _ _ _ (l .answers) (l .k) _ _ h (said .0) (c .before .yes .given .1) (l .inv .0), simp length-set (l .inv .1), said .1, search needs)
 
 same-length-3 : tie.Need-same-length-3 Inv-loop μ-loop
-same-length-3 c = c .before .loop .inv .4
+same-length-3 c = c .before .loop .inv .3
 
 same-length-4 : tie.Need-same-length-4 Inv-loop μ-loop
-same-length-4 c = c .before .loop .inv .2
+same-length-4 c = c .before .loop .inv .1
 
 returns-2 : tie.Need-returns-2 Inv-loop μ-loop
-returns-2 c = λ t m p. (refl, λ i h. c .before .loop .inv .1 t m p i (omega (arith, c .loop-test .left, c .before .before .classes .ensures)))
+returns-2 c = λ t m p. (refl, λ i l h. c .before .loop .inv .0 t m p i l (omega (arith, c .loop-test .left)))
 
 pub put-each-spec : {M : Type 1} → statement M
 put-each-spec =
@@ -79,9 +80,8 @@ put-each-spec =
     (tie.spec
     Inv-loop
     μ-loop
-    classes-requires
     loop-holds
-    cast-t14
+    cast-t15
     holds-requires
     enum-known-yes
     enum-told

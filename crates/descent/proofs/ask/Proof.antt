@@ -1,15 +1,11 @@
 -- Where nothing is nested, no list of places is made; else those that pay.
 use native.Mathlib.Omega.{arith}
-use Rattle.memo.proofs.Laws.{remembers-none}
-use Rattle.nearby.proofs.Laws.{zeros, no-outs, no-ins}
+use Rattle.memo.proofs.Laws.{zeros, remembers-none}
+use Rattle.nearby.proofs.Laws.{no-outs, no-ins}
 use Rattle.descent.proofs.Laws.{outs-part, ins-part}
 use borrow.Author.Needs.{needs}
 use Rattle.descent.proofs.ask.Statement.{statement}
 use Rattle.descent.proofs.ask.Tie as tie
-use Rattle.descent.proofs.ask_deep.Reads as ask-deep-reads
-use Rattle.descent.proofs.holds.Reads as holds-reads
-use Rattle.descent.proofs.put_ins.Reads as put-ins-reads
-use Rattle.descent.proofs.put_outs.Reads as put-outs-reads
 
 slice-aggregate-holds : tie.Need-slice-aggregate-holds
 slice-aggregate-holds c = search needs

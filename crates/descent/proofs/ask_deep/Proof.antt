@@ -4,7 +4,6 @@ use Rattle.memo.proofs.Laws.{remembers-none}
 use borrow.Author.Needs.{needs}
 use Rattle.descent.proofs.ask_deep.Statement.{statement}
 use Rattle.descent.proofs.ask_deep.Tie as tie
-use Rattle.descent.proofs.holds.Reads as holds-reads
 
 slice-aggregate-holds : tie.Need-slice-aggregate-holds
 slice-aggregate-holds c = search needs

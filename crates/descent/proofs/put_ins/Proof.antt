@@ -3,8 +3,6 @@ use native.Mathlib.Omega.{arith}
 use borrow.Author.Needs.{needs}
 use Rattle.descent.proofs.put_ins.Statement.{statement}
 use Rattle.descent.proofs.put_ins.Tie as tie
-use Rattle.descent.proofs.asks_incoming.Reads as asks-incoming-reads
-use Rattle.nearby.proofs.put_ins.Reads as put-ins-reads
 
 asks-incoming-requires : tie.Need-asks-incoming-requires
 asks-incoming-requires c κs = search needs

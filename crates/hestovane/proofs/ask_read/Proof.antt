@@ -2,10 +2,9 @@
 use native.Mathlib.Omega.{arith}
 use mathlib.Core.Path.{sym, ap, _∙_}
 use Rattle.meaning.specs.Answers.{word}
-use Rattle.question.proofs.Laws.{parsed-question}
+use Rattle.question.proofs.Laws.{parsed-question, said-one, not-refused}
 use Rattle.header.proofs.File.{well-file}
 use Rattle.listed.proofs.Laws.{mapped}
-use Rattle.hestovane.proofs.Laws.{never-refused, same-word}
 use Rattle.hestovane.proofs.OnSummary.{beyond-by, ask-seven, ask-eight, ask-at, at-class}
 use borrow.Author.Needs.{needs}
 use Rattle.hestovane.proofs.ask_read.Statement.{statement}
@@ -43,7 +42,7 @@ enum-told c = search needs
 returns-3 : tie.Need-returns-3
 returns-3 c =
     let s = c .before .before .before .before .before .before .before .before .before .before .before .pre in
-    absurd (never-refused _ _ _ (c .before .before .ask .ensures (s .tree) _ (parsed-question _ (s .tree) (s .reads))) (c .enum-told .given .1))
+    absurd (not-refused _ _ _ (c .before .before .ask .ensures (s .tree) _ (parsed-question _ (s .tree) (s .reads))) (c .enum-told .given .1))
 
 spoken-requires : tie.Need-spoken-requires
 spoken-requires c κs = search needs
@@ -52,7 +51,7 @@ returns-4 : tie.Need-returns-4
 returns-4 c =
     let s = c .before .before .before .before .before .before .before .before .before .before .before .before .before .pre in
     c .spoken .ensures
-    ∙ ap word (same-word _ _ _ (c .before .before .yes .given .1) (c .before .before .before .before .ask .ensures (s .tree) _ (parsed-question _ (s .tree) (s .reads))) ∙ at-class _ (s .tree) _ _ (c .before .before .before .before .before .class-of .ensures))
+    ∙ ap word (said-one _ _ _ (c .before .before .yes .given .1) (c .before .before .before .before .ask .ensures (s .tree) _ (parsed-question _ (s .tree) (s .reads))) ∙ at-class _ (s .tree) _ _ (c .before .before .before .before .before .class-of .ensures))
     ∙ ask-at _ _ _ (s .well) (s .tree) (s .reads) (sym (beyond-by _ (s .tree) _ _ (sym (s .depth-is)) (sym (s .threshold-is))) ∙ sym (c .before .before .before .before .before .before .before .before .before .beyond .ensures) ∙ c .before .before .before .before .before .before .before .before .if1 .left)
     (omega (arith, c .before .before .before .before .before .before .if2 .left, c .before .before .before .before .before .before .before .items .ensures))
 

@@ -2,7 +2,8 @@
 use mathlib.Core.Path.{ap, _∙_}
 use native.Mathlib.Omega.{arith}
 use Rattle.meaning.specs.Answers.{word}
-use Rattle.hestovane.proofs.Laws.{ask-beyond, ask-said, never-refused, same-word}
+use Rattle.question.proofs.Laws.{said-one, not-refused}
+use Rattle.hestovane.proofs.Laws.{ask-beyond, ask-said}
 use borrow.Author.Needs.{needs}
 use Rattle.hestovane.proofs.ask_whole.Statement.{statement}
 use Rattle.hestovane.proofs.ask_whole.Tie as tie
@@ -32,11 +33,11 @@ returns-2 c =
     let asked = a .before .before in
     let s = asked .before .before .before .before in
     c .spoken .ensures
-    ∙ ap word (same-word _ _ _ (a .asked .given .1) (asked .ask .ensures))
+    ∙ ap word (said-one _ _ _ (a .asked .given .1) (asked .ask .ensures))
     ∙ ask-said _ _ _ _ _ (s .pre .0) (s .pre .1) (omega arith)
 
 returns-3 : tie.Need-returns-3
-returns-3 c = absurd (never-refused _ _ _ (c .before .before .before .ask .ensures) (c .before .asked2 .given .1))
+returns-3 c = absurd (not-refused _ _ _ (c .before .before .before .ask .ensures) (c .before .asked2 .given .1))
 
 pub ask-whole-spec : {M : Type 1} → statement M
 ask-whole-spec =

@@ -5,8 +5,9 @@ use Prim.Native.Nat.{_+_, _-_, _/_, _≤_}
 use native.Mathlib.Omega.{arith}
 use lib.ListN.{length}
 use Rattle.meaning.specs.RegisterFile.{registerIn}
+use Rattle.question.proofs.Laws.{done-not-refused}
 use Rattle.inquiry.specs.Known.{Known}
-use Rattle.inquiry.proofs.Laws.{known-none, known-from, few-entries, not-refused}
+use Rattle.inquiry.proofs.Laws.{known-none, known-from, few-entries}
 use borrow.Author.Needs.{needs}
 use Rattle.inquiry.proofs.fill.Statement.{statement}
 use Rattle.inquiry.proofs.fill.Tie as tie
@@ -53,7 +54,7 @@ same-length : tie.Need-same-length Inv-loop μ-loop
 same-length c = omega arith
 
 returns : tie.Need-returns Inv-loop μ-loop
-returns c = absurd (not-refused _ _ (c .before .before .before .before .put-entry .ensures .done) (c .enum-told2 .given .1))
+returns c = absurd (done-not-refused _ _ (c .before .before .before .before .put-entry .ensures .done) (c .enum-told2 .given .1))
 
 same-length-2 : tie.Need-same-length-2 Inv-loop μ-loop
 same-length-2 c = omega arith

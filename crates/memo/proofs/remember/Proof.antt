@@ -7,7 +7,6 @@ use borrow.Author.Needs.{needs}
 use Rattle.memo.specs.Kept.{tell}
 use Rattle.memo.proofs.remember.Statement.{statement}
 use Rattle.memo.proofs.remember.Tie as tie
-use Rattle.memo.proofs.code_of.Reads as code-of-reads
 
 code-of-requires : tie.Need-code-of-requires
 code-of-requires c κs = search needs

@@ -4,7 +4,6 @@ use mathlib.Core.Path.{sym, ap}
 use mathlib.Core.Bool.{Bool, cond}
 use Prim.Native.Nat.{_+_, _*_}
 use borrow.Author.Tests.{lt-ltb, le-ltb}
-use borrow.Author.Needs.{needs}
 use Rattle.memo.proofs.slot_of.Statement.{statement}
 use Rattle.memo.proofs.slot_of.Tie as tie
 
