@@ -1,6 +1,6 @@
 -- The refusals of each call in their order: what the answer is once the tests before have passed. Leans on meaning's Answers, and on
 -- the laws of what a judged register and a judged question are.
-use mathlib.Core.Path.{_≡_, refl, sym, ap, subst, _∙_}
+use mathlib.Core.Path.{_≡_, refl, sym, ap, _∙_}
 use mathlib.Core.Bool.{Bool, true, false, cond}
 use mathlib.Core.List.{List}
 use Prim.Native.Nat.{ℕ, zero, suc, _≤_, _<_}
@@ -23,7 +23,6 @@ use Rattle.meaning.specs.declared.Refusal.the-variants.{Range}
 use Rattle.theory.proofs.WellMade.{level-least}
 use Rattle.said.specs.Written as written
 use Rattle.said.specs.Written.{Gives}
-use Rattle.said.specs.declared.Wrote.{Wrote}
 use Rattle.said.specs.declared.Wrote.the-variants as writes
 use Rattle.promise.proofs.Promise.{summary-most, in-range}
 use Rattle.promise.proofs.Access.{items-at, links-at, accepted-so}

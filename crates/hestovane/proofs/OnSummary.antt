@@ -1,5 +1,5 @@
 -- The refusals of asking and listing from a summary in their order: 6, 5, 7, then 8 or 9. Leans on meaning's Answers.
-use mathlib.Core.Path.{_≡_, refl, sym, ap, _∙_}
+use mathlib.Core.Path.{_≡_, refl, sym, ap}
 use mathlib.Core.Bool.{Bool, true, false, cond, _||_}
 use mathlib.Core.List.{List}
 use mathlib.Core.Option.{Option, none, some}
@@ -17,7 +17,7 @@ use Rattle.meaning.specs.QuestionFile.{question}
 use Rattle.meaning.specs.SummaryFile.{summaryIn, wellFormedFile}
 use Rattle.meaning.specs.Refusals.{numberOf}
 use Rattle.meaning.specs.declared.Refusal.{Refusal}
-use Rattle.meaning.specs.Answers.{Answer, number, word, returned, left, into, beyond, askIn, askSummary, listIn, list}
+use Rattle.meaning.specs.Answers.{number, word, returned, left, into, beyond, askIn, askSummary, listIn, list}
 use Rattle.meaning.specs.Answers
 use Rattle.theory.proofs.CountLaws.{those-same}
 use Rattle.summary.proofs.Laws.{size-numbers}

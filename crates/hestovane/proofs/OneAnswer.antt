@@ -2,7 +2,6 @@
 -- Two results that a call's contract allows for the same input are the same value, and so is every byte of a lent buffer. Leans on
 -- promise's OneAnswer: a number is one refusal's only.
 use mathlib.Core.Path.{_≡_, refl, sym, ap, _∙_}
-use mathlib.Core.Bool.{Bool, true, false}
 use mathlib.Core.List.{List}
 use Prim.Native.Nat.{ℕ}
 use native.Mathlib.Omega.{arith}
@@ -10,7 +9,7 @@ use lib.ListN.{length}
 use lib.IntN.{ℤ}
 use Rattle.meaning.specs.Refusals.{numberOf}
 use Rattle.meaning.specs.declared.Refusal.{Refusal}
-use Rattle.meaning.specs.Answers.{Answer, Returned, number, word, size, returned, code, left, condense, check, askRegister, askSummary, list}
+use Rattle.meaning.specs.Answers.{Answer, number, returned, code, left, condense, check, askRegister, askSummary, list}
 use Rattle.promise.proofs.OneAnswer.{number-one}
 use Rattle.said.specs.Written as written
 use Rattle.said.specs.Written.{Gives}

@@ -3,7 +3,7 @@ use mathlib.Core.Path.{sym, ap, _∙_}
 use borrow.Author.Tests.{not-true, not-false}
 use Rattle.meaning.specs.Answers.{number}
 use Rattle.question.specs.Read.{told}
-use Rattle.question.proofs.Laws.{verdict-accepted, verdict-refused}
+use Rattle.question.proofs.Laws.{verdict-refused}
 use Rattle.matching.proofs.Laws.{keyed-as}
 use Rattle.hestovane.proofs.OnSummary.{ask-six, ask-five, readied}
 use borrow.Author.Needs.{needs}

@@ -2,7 +2,7 @@
 use mathlib.Core.Path.{sym, ap, _∙_}
 use borrow.Author.Tests.{not-true, not-false}
 use Rattle.question.specs.Read.{told}
-use Rattle.question.proofs.Laws.{verdict-accepted, verdict-refused}
+use Rattle.question.proofs.Laws.{verdict-refused}
 use Rattle.matching.proofs.Laws.{keyed-as}
 use Rattle.meaning.specs.Answers
 use Rattle.said.proofs.Laws.{gives-this}
