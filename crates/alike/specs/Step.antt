@@ -7,13 +7,12 @@ use Rattle.meaning.specs.Register.{Register}
 use Rattle.meaning.specs.Level.{classList, classCount}
 use Rattle.surround.specs.Surroundings.{RowsStand}
 
--- so much room: for all rows, for where they start, for the keys and for the items
-pub record Room (n m rows starts keys other firsts : ℕ) : Type 0 where
+-- so much room: for all rows, for where they start, and for the keys
+pub record Room (n m rows starts keys other : ℕ) : Type 0 where
   pub for-rows : 2 * m ≤ rows
   pub for-starts : n < starts
   pub for-keys : (2 * m ≤ keys) × (n ≤ keys)
   pub for-other : (2 * m ≤ other) × (n ≤ other)
-  pub for-firsts : n ≤ firsts
 
 -- lower and upper begin with the class lists of level i − 1 and of level i, and are otherwise as they were; groups and classes are the
 -- class counts of the two; and the rows stand that were compared to make the second of the first

@@ -4,7 +4,7 @@ use names::Item;
 ghost use mathlib.Core.Path.{_≡_};
 ghost use mathlib.Core.Bool.{true};
 ghost use mathlib.Core.List.{_++_};
-ghost use Prim.Native.Nat.{ℕ, _+_, _-_, _*_, _<_, _≤_};
+ghost use Prim.Native.Nat.{ℕ, _+_, _*_, _<_, _≤_};
 ghost use lib.ListN.{length, drop, take, getD};
 ghost use Rattle.meaning.specs.Count.{tab};
 ghost use Rattle.meaning.specs.Register.{marksOf};
@@ -16,7 +16,7 @@ ghost use Rattle.alike.specs.Step.{Room, Reached, Onward};
 
 // "alike at level j + 1 when they are alike at level j and, for each direction, label and level-j class, they have equal numbers of
 // neighbours in that class, capped at µ": from the class list of level j that of level j + 1, and how many classes it has. The rows that
-// were compared stay in rows and starts; keys, other and firsts are room to work in.
+// were compared stay in rows and starts; keys and other are room to work in.
 pub fn step(
     reg: &[u8],
     n: usize,
@@ -28,16 +28,15 @@ pub fn step(
     starts: &mut [u16],
     keys: &mut [u64],
     other: &mut [u64],
-    firsts: &mut [u16],
 ) -> usize
     requires { ⌜ OfRegister (now reg) n m × OfClasses (now cs) n × (mu ≤ 7) × (n ≤ length (now out))
-        × Room n m (length (now rows)) (length (now starts)) (length (now keys)) (length (now other)) (length (now firsts)) ⌝ }
+        × Room n m (length (now rows)) (length (now starts)) (length (now keys)) (length (now other)) ⌝ }
     ensures { λ r. ⌜ (r ≡ classCount (tab (number (alikeNext (registerIn (now (reg .entry))) mu (take n (now (cs .entry))))) n))
         × (now (out .exit) ≡ tab (number (alikeNext (registerIn (now (reg .entry))) mu (take n (now (cs .entry))))) n ++ drop n (now (out .entry)))
         × RowsStand (registerIn (now (reg .entry))) mu (take n (now (cs .entry))) n (now (starts .exit)) (now (rows .exit)) ⌝ }
 {
     surround::item_rows(reg, n, m, mu, cs, rows, starts, keys, other);
-    signature::number_by_signature(cs, starts, rows, n, keys, other, firsts, out)
+    signature::number_by_signature(cs, starts, rows, n, keys, other, out)
 }
 
 // The marks fields of all items.
@@ -53,22 +52,15 @@ fn read_marks(reg: &[u8], n: usize, marks: &mut [u32])
 }
 
 // "Two items are alike at level 0 when their marks fields are equal": the class list of level 0, and how many classes it has.
-// keys, other and firsts are room to work in.
-fn by_marks(
-    reg: &[u8],
-    n: usize,
-    out: &mut [u16],
-    keys: &mut [u64],
-    other: &mut [u64],
-    firsts: &mut [u16],
-) -> usize
-    requires { ⌜ OfItems (now reg) n × (n ≤ length (now out)) × (n ≤ length (now keys)) × (n ≤ length (now other)) × (n ≤ length (now firsts)) ⌝ }
+// keys and other are room to work in.
+fn by_marks(reg: &[u8], n: usize, out: &mut [u16], keys: &mut [u64], other: &mut [u64]) -> usize
+    requires { ⌜ OfItems (now reg) n × (n ≤ length (now out)) × (n ≤ length (now keys)) × (n ≤ length (now other)) ⌝ }
     ensures { λ r. ⌜ ((µ : ℕ) → (r ≡ classCount (classList (registerIn (now (reg .entry))) µ 0))
         × (now (out .exit) ≡ classList (registerIn (now (reg .entry))) µ 0 ++ drop n (now (out .entry)))) ⌝ }
 {
     let mut marks = [0u32; 1024];
     read_marks(reg, n, &mut marks);
-    signature::number_by_marks(&marks, n, keys, other, firsts, out)
+    signature::number_by_marks(&marks, n, keys, other, out)
 }
 
 // The classes of n items copied.
@@ -131,10 +123,9 @@ fn refine(
     starts: &mut [u16],
     keys: &mut [u64],
     other: &mut [u64],
-    firsts: &mut [u16],
 ) -> Counts
     requires { ⌜ OfRegister (now reg) n m × (mu ≤ 7) × (1 ≤ i) × (n ≤ length (now lower)) × (n ≤ length (now upper))
-        × Room n m (length (now rows)) (length (now starts)) (length (now keys)) (length (now other)) (length (now firsts))
+        × Room n m (length (now rows)) (length (now starts)) (length (now keys)) (length (now other))
         × (take n (now upper) ≡ classList (registerIn (now reg)) mu 0) × (marked ≡ classCount (classList (registerIn (now reg)) mu 0)) ⌝ }
     ensures { λ r. ⌜ Reached (registerIn (now (reg .entry))) mu n i (now (lower .entry)) (now (lower .exit)) (now (upper .entry)) (now (upper .exit))
         (r .groups) (r .classes) (now (starts .exit)) (now (rows .exit)) ⌝ }
@@ -145,19 +136,7 @@ fn refine(
     while j < i {
         copy_classes(upper, n, lower);
         groups = classes;
-        classes = step(
-            reg,
-            n,
-            m,
-            mu,
-            lower,
-            upper,
-            rows,
-            starts,
-            keys,
-            other,
-            firsts,
-        );
+        classes = step(reg, n, m, mu, lower, upper, rows, starts, keys, other);
         j = next_level(lower, upper, n, j, i);
     }
     Counts { groups, classes }
@@ -182,8 +161,7 @@ pub fn levels(
 {
     let mut keys = [0u64; 4096];
     let mut other = [0u64; 4096];
-    let mut firsts = [0u16; 1024];
-    let marked = by_marks(reg, n, upper, &mut keys, &mut other, &mut firsts);
+    let marked = by_marks(reg, n, upper, &mut keys, &mut other);
     refine(
         reg,
         n,
@@ -197,6 +175,5 @@ pub fn levels(
         starts,
         &mut keys,
         &mut other,
-        &mut firsts,
     )
 }

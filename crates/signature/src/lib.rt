@@ -60,23 +60,23 @@ fn find_marked(marks: &[u32], n: usize, s: &[u64], firsts: &mut [u16])
     }
 }
 
-// "Two items are alike at level 0 when their marks fields are equal": each item's number by its marks. a, b and firsts are room to work in.
+// "Two items are alike at level 0 when their marks fields are equal": each item's number by its marks. a and b are room to work in.
 pub fn number_by_marks(
     marks: &[u32],
     n: usize,
     a: &mut [u64],
     b: &mut [u64],
-    firsts: &mut [u16],
     out: &mut [u16],
 ) -> usize
-    requires { ⌜ (n ≤ 1024) × (n ≤ length (now marks)) × (n ≤ length (now a)) × (n ≤ length (now b)) × (n ≤ length (now firsts)) × (n ≤ length (now out)) ⌝ }
+    requires { ⌜ (n ≤ 1024) × (n ≤ length (now marks)) × (n ≤ length (now a)) × (n ≤ length (now b)) × (n ≤ length (now out)) ⌝ }
     ensures { λ r. ⌜ (r ≡ classCount (tab (number (sameMarks (now (marks .entry)))) n))
         × (now (out .exit) ≡ tab (number (sameMarks (now (marks .entry)))) n ++ drop n (now (out .entry))) ⌝ }
 {
     put_marks(marks, n, a);
     radix::sort(a, n, b);
-    find_marked(marks, n, a, firsts);
-    number_firsts(firsts, n, out)
+    let mut firsts = [0u16; 1024];
+    find_marked(marks, n, a, &mut firsts);
+    number_firsts(&firsts, n, out)
 }
 
 // One word more in a hash.
@@ -190,7 +190,7 @@ fn find_firsts(
     }
 }
 
-// Each item's number: items of one signature have one number, numbered in order of their lowest item. a, b and firsts are room to work in.
+// Each item's number: items of one signature have one number, numbered in order of their lowest item. a and b are room to work in.
 pub fn number_by_signature(
     groups: &[u16],
     starts: &[u16],
@@ -198,15 +198,15 @@ pub fn number_by_signature(
     n: usize,
     a: &mut [u64],
     b: &mut [u64],
-    firsts: &mut [u16],
     out: &mut [u16],
 ) -> usize
-    requires { ⌜ Laid (now groups) (now starts) (now rows) n × (n ≤ length (now a)) × (n ≤ length (now b)) × (n ≤ length (now firsts)) × (n ≤ length (now out)) ⌝ }
+    requires { ⌜ Laid (now groups) (now starts) (now rows) n × (n ≤ length (now a)) × (n ≤ length (now b)) × (n ≤ length (now out)) ⌝ }
     ensures { λ r. ⌜ (r ≡ classCount (tab (number (alikeSig (now (groups .entry)) (now (starts .entry)) (now (rows .entry)))) n))
         × (now (out .exit) ≡ tab (number (alikeSig (now (groups .entry)) (now (starts .entry)) (now (rows .entry)))) n ++ drop n (now (out .entry))) ⌝ }
 {
     put_hashes(groups, starts, rows, n, a);
     radix::sort(a, n, b);
-    find_firsts(groups, starts, rows, n, a, firsts);
-    number_firsts(firsts, n, out)
+    let mut firsts = [0u16; 1024];
+    find_firsts(groups, starts, rows, n, a, &mut firsts);
+    number_firsts(&firsts, n, out)
 }

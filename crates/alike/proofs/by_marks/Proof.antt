@@ -16,15 +16,15 @@ slice-aggregate-read-marks : tie.Need-slice-aggregate-read-marks
 slice-aggregate-read-marks c = search needs
 
 read-marks-requires : tie.Need-read-marks-requires
-read-marks-requires c κs = let s = c .before .before .before .before .before .before in let few = few-items _ _ (s .pre .0) in (s .pre .0, omega arith)
+read-marks-requires c κs = let s = c .before .before .before .before .before in let few = few-items _ _ (s .pre .0) in (s .pre .0, omega arith)
 
 slice-aggregate-number-by-marks : tie.Need-slice-aggregate-number-by-marks
 slice-aggregate-number-by-marks c = search needs
 
 number-by-marks-requires : tie.Need-number-by-marks-requires
 number-by-marks-requires c κs =
-    let s = c .before .before .before .before .before .before .before .before .before .before .before .before .before in
-    let few = few-items _ _ (s .pre .0) in (few, omega arith, omega (arith, s .pre), omega (arith, s .pre), omega (arith, s .pre), omega (arith, s .pre))
+    let s = c .before .before .before .before .before .before .before .before .before .before .before in
+    let few = few-items _ _ (s .pre .0) in (few, omega arith, omega (arith, s .pre), omega (arith, s .pre), omega (arith, s .pre))
 
 same-length : tie.Need-same-length
 same-length c = search needs
@@ -35,14 +35,11 @@ same-length-2 c = search needs
 same-length-3 : tie.Need-same-length-3
 same-length-3 c = search needs
 
-same-length-4 : tie.Need-same-length-4
-same-length-4 c = search needs
-
 returns : tie.Need-returns
 returns c =
-    let at-number-by-marks = c .before .before .before .before .before .before .before .before in
-    let at-read-marks = at-number-by-marks .before .before .before .before .before .before .before in
-    let s = at-read-marks .before .before .before .before .before .before .before in
+    let at-number-by-marks = c .before .before .before .before .before .before in
+    let at-read-marks = at-number-by-marks .before .before .before .before .before .before in
+    let s = at-read-marks .before .before .before .before .before .before in
     let a = s .args in
     let k = at-number-by-marks .number-by-marks .ensures in
     λ µ.
@@ -60,5 +57,4 @@ by-marks-spec =
     same-length
     same-length-2
     same-length-3
-    same-length-4
     returns)

@@ -20,15 +20,14 @@ item-rows-requires c κs = search needs
 
 number-by-signature-requires : tie.Need-number-by-signature-requires
 number-by-signature-requires c κs =
-    let s = c .before .before .before .before .before .before .before .before .before .before .before .before .before .before .before .before .before .before .before .before .before .before .before .before .before .before .before in
+    let s = c .before .before .before .before .before .before .before .before .before .before .before .before .before .before .before .before .before .before .before .before .before .before .before .before .before in
     let a = s .args in
     let few = limits (a .reg .now) (a .n) (a .m) (s .pre .0) in
-    let r = c .before .before .before .before .before .before .before .before .before .before .before .before .before .before .item-rows .ensures in
+    let r = c .before .before .before .before .before .before .before .before .before .before .before .before .before .item-rows .ensures in
     let room = s .pre .4 in (
       rows-laid (registerIn (a .reg .now)) (a .mu) (take (a .n) (a .cs .now)) (a .n) _ _ _ _ (r .1) (r .0) (a .cs .now) (few .0) (s .pre .1 .long) (omega (arith, room .for-starts)),
       omega (arith, room .for-keys),
       omega (arith, room .for-other),
-      omega (arith, room .for-firsts),
       omega (arith, s .pre),
     )
 
@@ -47,14 +46,11 @@ same-length-4 c = search needs
 same-length-5 : tie.Need-same-length-5
 same-length-5 c = search needs
 
-same-length-6 : tie.Need-same-length-6
-same-length-6 c = search needs
-
 returns : tie.Need-returns
 returns c =
-    let at-number-by-signature = c .before .before .before .before .before .before .before .before in
-    let at-item-rows = at-number-by-signature .before .before .before .before .before .before .before .before .before .before .before .before .before .before .before in
-    let s = at-item-rows .before .before .before .before .before .before .before .before .before .before .before .before .before in
+    let at-number-by-signature = c .before .before .before .before .before .before in
+    let at-item-rows = at-number-by-signature .before .before .before .before .before .before .before .before .before .before .before .before .before .before in
+    let s = at-item-rows .before .before .before .before .before .before .before .before .before .before .before .before in
     let a = s .args in
     let R = registerIn (a .reg .now) in
     let cs = take (a .n) (a .cs .now) in
@@ -79,5 +75,4 @@ step-spec =
     same-length-3
     same-length-4
     same-length-5
-    same-length-6
     returns)
