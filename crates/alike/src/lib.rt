@@ -1,16 +1,14 @@
 // The class lists of a register, level by level. A step reads the finished list of one level and writes the list of the next to another
-// array: the rows of the items, then numbers by signature. Leans on register for the marks, on surround for the rows, on signature.
-use names::Item;
+// array: the rows of the items, then numbers by signature. Leans on marked for level 0, on surround for the rows, on signature.
 ghost use mathlib.Core.Path.{_≡_};
 ghost use mathlib.Core.Bool.{true};
 ghost use mathlib.Core.List.{_++_};
-ghost use Prim.Native.Nat.{ℕ, _+_, _*_, _<_, _≤_};
-ghost use lib.ListN.{length, drop, take, getD};
+ghost use Prim.Native.Nat.{_+_, _*_, _<_, _≤_};
+ghost use lib.ListN.{length, drop, take};
 ghost use Rattle.meaning.specs.Count.{tab};
-ghost use Rattle.meaning.specs.Register.{marksOf};
 ghost use Rattle.meaning.specs.Level.{number, alikeNext, classList, classCount};
 ghost use Rattle.meaning.specs.RegisterFile.{registerIn};
-ghost use Rattle.register.specs.Told.{OfItems, OfRegister};
+ghost use Rattle.register.specs.Told.{OfRegister};
 ghost use Rattle.surround.specs.Surroundings.{OfClasses, RowsStand};
 ghost use Rattle.alike.specs.Step.{Room, Reached, Onward};
 
@@ -37,30 +35,6 @@ pub fn step(
 {
     surround::item_rows(reg, n, m, mu, cs, rows, starts, keys, other);
     signature::number_by_signature(cs, starts, rows, n, keys, other, out)
-}
-
-// The marks fields of all items.
-fn read_marks(reg: &[u8], n: usize, marks: &mut [u32])
-    requires { ⌜ OfItems (now reg) n × (n ≤ length (now marks)) ⌝ }
-    ensures { λ r. ⌜ ((x : ℕ) → x < n → getD (now (marks .exit)) x 0 ≡ marksOf (registerIn (now (reg .entry))) x) ⌝ }
-{
-    let mut x = 0;
-    while x < n {
-        marks[x] = register::marks(reg, Item(x as u16));
-        x += 1;
-    }
-}
-
-// "Two items are alike at level 0 when their marks fields are equal": the class list of level 0, and how many classes it has.
-// keys and other are room to work in.
-fn by_marks(reg: &[u8], n: usize, out: &mut [u16], keys: &mut [u64], other: &mut [u64]) -> usize
-    requires { ⌜ OfItems (now reg) n × (n ≤ length (now out)) × (n ≤ length (now keys)) × (n ≤ length (now other)) ⌝ }
-    ensures { λ r. ⌜ ((µ : ℕ) → (r ≡ classCount (classList (registerIn (now (reg .entry))) µ 0))
-        × (now (out .exit) ≡ classList (registerIn (now (reg .entry))) µ 0 ++ drop n (now (out .entry)))) ⌝ }
-{
-    let mut marks = [0u32; 1024];
-    read_marks(reg, n, &mut marks);
-    signature::number_by_marks(&marks, n, keys, other, out)
 }
 
 // The classes of n items copied.
@@ -161,7 +135,7 @@ pub fn levels(
 {
     let mut keys = [0u64; 4096];
     let mut other = [0u64; 4096];
-    let marked = by_marks(reg, n, upper, &mut keys, &mut other);
+    let marked = marked::by_marks(reg, n, upper, &mut keys, &mut other);
     refine(
         reg,
         n,

@@ -7,10 +7,6 @@ use lib.ListN.{getD, length}
 use lib.Dec.{eqb}
 use Rattle.meaning.specs.Count.{all}
 
--- x and y have equal marks
-unfoldable pub sameMarks : List ℕ → ℕ → ℕ → Bool
-sameMarks ms x y = eqb (getD ms x 0) (getD ms y 0)
-
 -- how many words x has, and word j of x
 unfoldable pub size : List ℕ → ℕ → ℕ
 size o x = getD o (x + 1) 0 - getD o x 0

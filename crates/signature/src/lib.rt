@@ -1,83 +1,14 @@
-// Items numbered "in order of their lowest item", in about linear time: by their marks, or by their group and rows together, the
-// signature. Each item's key and number go into one word, and the words are sorted; within a run of one key the lowest item alike is
-// found. A signature's key is a hash, and signatures of one hash are compared in full, so that no number rests on the hash. Leans on radix.
+// Items numbered "in order of their lowest item" by their group and rows together, the signature, in about linear time. Each item's hash and
+// number go into one word, and the words are sorted; signatures of one hash are compared in full, so that no number rests on the hash.
+// Leans on marked for numbers from lowest items, on radix.
 ghost use mathlib.Core.Path.{_≡_};
 ghost use mathlib.Core.List.{_++_};
 ghost use Prim.Native.Nat.{ℕ, _+_, _-_, _*_, _<_, _≤_};
 ghost use lib.ListN.{length, drop, getD};
-ghost use Rattle.meaning.specs.Count.{tally, tab, seek};
+ghost use Rattle.meaning.specs.Count.{tab, seek};
 ghost use Rattle.meaning.specs.Level.{first, number, classCount};
-ghost use Rattle.signature.specs.Lowest.{own, numberOf, Lows, pack, Listed, item};
-ghost use Rattle.signature.specs.Signature.{sameMarks, alikeSig, mix, hashSig, Laid};
-
-// Each item's number, from the lowest item alike each; and how many numbers there are.
-fn number_firsts(firsts: &[u16], n: usize, out: &mut [u16]) -> usize
-    requires { ⌜ (n ≤ length (now firsts)) × (n ≤ length (now out)) × (n < 65536) × Lows (now firsts) n ⌝ }
-    ensures { λ r. ⌜ (r ≡ tally (own (now (firsts .entry))) n)
-        × (now (out .exit) ≡ tab (numberOf (now (firsts .entry))) n ++ drop n (now (out .entry))) ⌝ }
-{
-    let mut k: usize = 0;
-    let mut i = 0;
-    while i < n {
-        let j = firsts[i] as usize;
-        if j == i {
-            out[i] = k as u16;
-            k += 1;
-        } else {
-            out[i] = out[j];
-        }
-        i += 1;
-    }
-    k
-}
-
-// Each item with its marks, in one word.
-fn put_marks(marks: &[u32], n: usize, out: &mut [u64])
-    requires { ⌜ (n ≤ 1024) × (n ≤ length (now marks)) × (n ≤ length (now out)) ⌝ }
-    ensures { λ r. ⌜ now (out .exit) ≡ tab (pack (λ x. getD (now (marks .entry)) x 0)) n ++ drop n (now (out .entry)) ⌝ }
-{
-    let mut x = 0;
-    while x < n {
-        out[x] = marks[x] as u64 * 1024 + x as u64;
-        x += 1;
-    }
-}
-
-// The lowest item with the marks of each item: the first of its run.
-fn find_marked(marks: &[u32], n: usize, s: &[u64], firsts: &mut [u16])
-    requires { ⌜ (n ≤ 1024) × (n ≤ length (now marks)) × Listed (λ x. getD (now marks) x 0) n (now s) × (n ≤ length (now s)) × (n ≤ length (now firsts)) ⌝ }
-    ensures { λ r. ⌜ ((x : ℕ) → x < n → getD (now (firsts .exit)) x 0 ≡ first (sameMarks (now (marks .entry))) x) ⌝ }
-{
-    let mut r = 0;
-    let mut p = 0;
-    while p < n {
-        if s[p] / 1024 != s[r] / 1024 {
-            r = p;
-        }
-        let x = (s[p] % 1024) as usize;
-        firsts[x] = (s[r] % 1024) as u16;
-        p += 1;
-    }
-}
-
-// "Two items are alike at level 0 when their marks fields are equal": each item's number by its marks. a and b are room to work in.
-pub fn number_by_marks(
-    marks: &[u32],
-    n: usize,
-    a: &mut [u64],
-    b: &mut [u64],
-    out: &mut [u16],
-) -> usize
-    requires { ⌜ (n ≤ 1024) × (n ≤ length (now marks)) × (n ≤ length (now a)) × (n ≤ length (now b)) × (n ≤ length (now out)) ⌝ }
-    ensures { λ r. ⌜ (r ≡ classCount (tab (number (sameMarks (now (marks .entry)))) n))
-        × (now (out .exit) ≡ tab (number (sameMarks (now (marks .entry)))) n ++ drop n (now (out .entry))) ⌝ }
-{
-    put_marks(marks, n, a);
-    radix::sort(a, n, b);
-    let mut firsts = [0u16; 1024];
-    find_marked(marks, n, a, &mut firsts);
-    number_firsts(&firsts, n, out)
-}
+ghost use Rattle.marked.specs.Lowest.{pack, Listed, item};
+ghost use Rattle.signature.specs.Signature.{alikeSig, mix, hashSig, Laid};
 
 // One word more in a hash.
 fn stir(h: u64, w: u64) -> u64
@@ -208,5 +139,5 @@ pub fn number_by_signature(
     radix::sort(a, n, b);
     let mut firsts = [0u16; 1024];
     find_firsts(groups, starts, rows, n, a, &mut firsts);
-    number_firsts(&firsts, n, out)
+    marked::number_firsts(&firsts, n, out)
 }

@@ -5,9 +5,10 @@ use mathlib.Core.Logic.{⊎-elim, inl, inr}
 use native.Mathlib.Omega.{arith}
 use lib.ListN.{length, getD, length-set}
 use Rattle.meaning.specs.Level.{first}
-use Rattle.signature.specs.Lowest.{item}
+use Rattle.marked.specs.Lowest.{item}
 use Rattle.signature.specs.Signature.{alikeSig, hashSig}
-use Rattle.signature.proofs.Laws.{Run, run-none, run-next, store-next, all-met, item-small, led}
+use Rattle.marked.proofs.Laws.{Run, run-none, run-next, store-next, all-met, item-small}
+use Rattle.signature.proofs.Laws.{led}
 use Rattle.signature.proofs.find_firsts.Statement.{statement}
 use Rattle.signature.proofs.find_firsts.Tie as tie
 

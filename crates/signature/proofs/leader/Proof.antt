@@ -4,7 +4,7 @@ use mathlib.Core.Bool.{Bool, true, false}
 use Prim.Native.Nat.{ℕ, _-_, _≤_}
 use native.Mathlib.Omega.{arith}
 use Rattle.meaning.specs.Count.{seek}
-use Rattle.signature.specs.Lowest.{item}
+use Rattle.marked.specs.Lowest.{item}
 use Rattle.signature.specs.Signature.{alikeSig}
 use Rattle.order.proofs.Front.{seek-found, seek-next, seek-over}
 use Rattle.signature.proofs.leader.Statement.{statement}

@@ -6,8 +6,9 @@ use native.Mathlib.Omega.{arith}
 use borrow.Author.Needs.{needs}
 use lib.ListN.{drop}
 use Rattle.signature.specs.Signature.{alikeSig, hashSig}
-use Rattle.signature.proofs.Numbered.{lows, numbered, numbers}
-use Rattle.signature.proofs.Laws.{sig-equivalence, keys-listed}
+use Rattle.marked.proofs.Numbered.{lows, numbered, numbers}
+use Rattle.marked.proofs.Laws.{keys-listed}
+use Rattle.signature.proofs.Laws.{sig-equivalence}
 use Rattle.signature.proofs.number_by_signature.Statement.{statement}
 use Rattle.signature.proofs.number_by_signature.Tie as tie
 

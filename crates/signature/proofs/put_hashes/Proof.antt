@@ -5,7 +5,7 @@ use Prim.Native.Nat.{ℕ, _+_, _-_, _*_, _≤_}
 use native.Mathlib.Omega.{arith}
 use lib.ListN.{length, drop, length-set}
 use Rattle.meaning.specs.Count.{tab}
-use Rattle.signature.specs.Lowest.{pack}
+use Rattle.marked.specs.Lowest.{pack}
 use Rattle.signature.specs.Signature.{hashSig}
 use Rattle.order.proofs.Front.{tab-none, tab-more}
 use Rattle.signature.proofs.put_hashes.Statement.{statement}

@@ -4,12 +4,12 @@ use mathlib.Core.List.{List, _++_}
 use Prim.Native.Nat.{ℕ}
 use native.Mathlib.Omega.{arith}
 use lib.ListN.{getD, drop}
-use Rattle.signature.specs.Signature.{sameMarks}
-use Rattle.signature.proofs.Numbered.{lows, numbered, numbers}
-use Rattle.signature.proofs.Laws.{marks-equivalence, keys-listed}
+use Rattle.marked.specs.Lowest.{sameMarks}
+use Rattle.marked.proofs.Numbered.{lows, numbered, numbers}
+use Rattle.marked.proofs.Laws.{marks-equivalence, keys-listed}
 use borrow.Author.Needs.{needs}
-use Rattle.signature.proofs.number_by_marks.Statement.{statement}
-use Rattle.signature.proofs.number_by_marks.Tie as tie
+use Rattle.marked.proofs.number_by_marks.Statement.{statement}
+use Rattle.marked.proofs.number_by_marks.Tie as tie
 
 put-marks-requires : tie.Need-put-marks-requires
 put-marks-requires c κs = search needs

@@ -5,11 +5,11 @@ use Prim.Native.Nat.{ℕ, _-_, _≤_, _<_}
 use native.Mathlib.Omega.{arith}
 use lib.ListN.{length, getD, length-set}
 use Rattle.meaning.specs.Level.{first}
-use Rattle.signature.specs.Lowest.{item}
-use Rattle.signature.specs.Signature.{sameMarks}
-use Rattle.signature.proofs.Laws.{Run, run-none, run-next, store-next, all-met, item-small, led-marks}
-use Rattle.signature.proofs.find_marked.Statement.{statement}
-use Rattle.signature.proofs.find_marked.Tie as tie
+use Rattle.marked.specs.Lowest.{item}
+use Rattle.marked.specs.Lowest.{sameMarks}
+use Rattle.marked.proofs.Laws.{Run, run-none, run-next, store-next, all-met, item-small, led-marks}
+use Rattle.marked.proofs.find_marked.Statement.{statement}
+use Rattle.marked.proofs.find_marked.Tie as tie
 
 abbrev Inv-loop : tie.InvT-loop
 Inv-loop marks n s firsts₀ r₀ p₀ firsts r p = (p ≤ n) × (length firsts ≡ length firsts₀) × Run s r p × ((q : ℕ) → q < p → getD firsts (item s q) 0 ≡ first (sameMarks marks) (item s q))

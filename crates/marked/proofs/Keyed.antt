@@ -15,7 +15,7 @@ use Rattle.theory.proofs.CountLaws.{by-bool, by-eq, eqb-refl, seek-end, seek-le
 use Rattle.theory.proofs.NumberLaws.{first-le, first-like, first-lowest}
 use Rattle.order.specs.Sorted.{sorted, times}
 use Rattle.order.proofs.Laws.{ascends-up, sorted-ascends, sorted-times, length-sorted}
-use Rattle.signature.specs.Lowest.{pack, Listed, item}
+use Rattle.marked.specs.Lowest.{pack, Listed, item}
 
 -- ---- a sorted list of packed items is such a list
 

@@ -1,4 +1,4 @@
--- Items numbered in order of lowest item, from a list of each item's lowest like; and items listed by a key. Leans on Count.
+-- Items numbered in order of lowest item, from a list of each item's lowest like; items listed by a key; equal marks. Leans on Count.
 use Prim.Native.Nat.{ℕ, _+_, _*_, _%_, _≤_, _<_}
 use mathlib.Core.Bool.{Bool}
 use mathlib.Core.List.{List}
@@ -33,3 +33,7 @@ pub record Listed (key : ℕ → ℕ) (n : ℕ) (s : List ℕ) : Type 0 where
 -- the item at a place
 abbrev pub item : List ℕ → ℕ → ℕ
 item s p = getD s p 0 % 1024
+
+-- x and y have equal marks
+unfoldable pub sameMarks : List ℕ → ℕ → ℕ → Bool
+sameMarks ms x y = eqb (getD ms x 0) (getD ms y 0)

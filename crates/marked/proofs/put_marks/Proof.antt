@@ -6,9 +6,9 @@ use native.Mathlib.Omega.{arith}
 use lib.ListN.{length, getD, drop, length-set}
 use Rattle.meaning.specs.Count.{tab}
 use Rattle.order.proofs.Front.{tab-none, tab-more}
-use Rattle.signature.specs.Lowest.{pack}
-use Rattle.signature.proofs.put_marks.Statement.{statement}
-use Rattle.signature.proofs.put_marks.Tie as tie
+use Rattle.marked.specs.Lowest.{pack}
+use Rattle.marked.proofs.put_marks.Statement.{statement}
+use Rattle.marked.proofs.put_marks.Tie as tie
 
 abbrev Inv-loop : tie.InvT-loop
 Inv-loop marks n out₀ x₀ out x = (x ≤ n) × (length out ≡ length out₀) × (out ≡ tab (pack (λ y. getD marks y 0)) x ++ drop x out₀)

@@ -8,8 +8,8 @@ use Rattle.meaning.specs.RegisterFile.{registerIn}
 use Rattle.register.proofs.Laws.{few-items}
 use Rattle.order.proofs.Front.{filled-next}
 use borrow.Author.Needs.{needs}
-use Rattle.alike.proofs.read_marks.Statement.{statement}
-use Rattle.alike.proofs.read_marks.Tie as tie
+use Rattle.marked.proofs.read_marks.Statement.{statement}
+use Rattle.marked.proofs.read_marks.Tie as tie
 
 abbrev Inv-loop : tie.InvT-loop
 Inv-loop reg n marks₀ x₀ marks x = (x ≤ n) × (length marks ≡ length marks₀) × ((y : ℕ) → y < x → getD marks y 0 ≡ marksOf (registerIn reg) y)

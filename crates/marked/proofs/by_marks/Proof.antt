@@ -7,10 +7,10 @@ use lib.ListN.{drop}
 use Rattle.meaning.specs.Level.{classCount}
 use Rattle.meaning.specs.RegisterFile.{registerIn}
 use Rattle.register.proofs.Laws.{few-items}
-use Rattle.alike.proofs.ByLevel.{marked}
+use Rattle.marked.proofs.Laws.{marked}
 use borrow.Author.Needs.{needs}
-use Rattle.alike.proofs.by_marks.Statement.{statement}
-use Rattle.alike.proofs.by_marks.Tie as tie
+use Rattle.marked.proofs.by_marks.Statement.{statement}
+use Rattle.marked.proofs.by_marks.Tie as tie
 
 slice-aggregate-read-marks : tie.Need-slice-aggregate-read-marks
 slice-aggregate-read-marks c = search needs
