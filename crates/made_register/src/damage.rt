@@ -7,7 +7,6 @@
 use crate::made;
 use crate::made::Made;
 use casework::bytes;
-use casework::dice::Dice;
 ghost use Prim.Native.Nat.{_<_};
 
 pub fn damaged(b: &mut [u8], whole: Made) -> Made {
