@@ -129,7 +129,8 @@ pub fn levels(
     rows: &mut [u64],
     starts: &mut [u16],
 ) -> Counts
-    requires { ⌜ OfRegister (now reg) n m × (mu ≤ 7) × (1 ≤ i) × (n ≤ length (now lower)) × (n ≤ length (now upper)) × (2 * m ≤ length (now rows)) × (n < length (now starts)) ⌝ }
+    requires { ⌜ OfRegister (now reg) n m × (mu ≤ 7) × (1 ≤ i) × (n ≤ length (now lower)) × (n ≤ length (now upper))
+        × (2 * m ≤ length (now rows)) × (n < length (now starts)) ⌝ }
     ensures { λ r. ⌜ Reached (registerIn (now (reg .entry))) mu n i (now (lower .entry)) (now (lower .exit)) (now (upper .entry)) (now (upper .exit))
         (r .groups) (r .classes) (now (starts .exit)) (now (rows .exit)) ⌝ }
 {

@@ -179,7 +179,16 @@ four-at u k h =
     let a : 4 * k + 1 ≡ suc (4 * k) = omega arith in
     let b : 4 * k + 2 ≡ suc (suc (4 * k)) = omega arith in
     let c : 4 * k + 3 ≡ suc (suc (suc (4 * k))) = omega arith in
-    rw (z, a, b, c, drop-cons u (4 * k) 0 (omega arith), drop-cons u (suc (4 * k)) 0 (omega arith), drop-cons u (suc (suc (4 * k))) 0 (omega arith), drop-cons u (suc (suc (suc (4 * k)))) 0 (omega arith))
+    rw (
+      z,
+      a,
+      b,
+      c,
+      drop-cons u (4 * k) 0 (omega arith),
+      drop-cons u (suc (4 * k)) 0 (omega arith),
+      drop-cons u (suc (suc (4 * k))) 0 (omega arith),
+      drop-cons u (suc (suc (suc (4 * k)))) 0 (omega arith),
+    )
 
 fours : (u : List ℕ) (n : ℕ) → 4 * n ≤ length u → take (4 * n) u ≡ join (four u) n
 unfolding join

@@ -106,7 +106,8 @@ module _ (b : List ℕ) (n m µ ν g c : ℕ) (groups map starts words : List �
       let le : e′ ≡ length (classLinks R cs) = ee ∙ he in
       rw (h, lc, lm, lg, lr, le)
 
-  pub bytes-are : (head classes rows edges : List ℕ) (r e : ℕ) → take 12 head ≡ headNumbers S → take (classFields * classCount cs) classes ≡ pack classNumbers (tab (classFor ν R gs cs) (classCount cs)) →
+  pub bytes-are : (head classes rows edges : List ℕ) (r e : ℕ) → take 12 head ≡ headNumbers S →
+      take (classFields * classCount cs) classes ≡ pack classNumbers (tab (classFor ν R gs cs) (classCount cs)) →
       take (4 * r) rows ≡ pack rowNumbers (classRows R µ gs cs) → take (3 * e) edges ≡ pack edgeNumbers (classLinks R cs) →
       pack put2 (numbers head classes c rows r edges e map n) ≡ summaryBytes S
   unfolding summaryBy

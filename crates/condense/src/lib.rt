@@ -14,7 +14,8 @@ ghost use Rattle.condense.specs.Classed.{Classed};
 // "The classes of a summary are those of level i; its groups are those of level i − 1": 9, or its bytes.
 pub fn condense(reg: &[u8], n: usize, m: usize, i: u16, mu: u8, nu: u8, out: &mut [u8]) -> Wrote
     requires { ⌜ OfRegister (now reg) n m × (1 ≤ i) × (mu ≤ 7) ⌝ }
-    ensures { λ w. ⌜ Gives w (now (out .entry)) (now (out .exit)) (into (length (now (out .entry))) (summaryBytes (summaryOf i mu nu (registerIn (now (reg .entry)))))) ⌝ }
+    ensures { λ w. ⌜ Gives w (now (out .entry)) (now (out .exit))
+        (into (length (now (out .entry))) (summaryBytes (summaryOf i mu nu (registerIn (now (reg .entry)))))) ⌝ }
 {
     let mut groups = [0u16; 1024];
     let mut map = [0u16; 1024];

@@ -27,7 +27,8 @@ enum Counted {
 
 // Whether the question, which has that depth, holds at the class.
 pub fn ask(q: &[u8], depth: usize, s: &[u8], keys: &[u64], class: Class) -> Asked
-    requires { ⌜ (wellFormedFile (now s) ≡ true) × (length (now keys) ≡ 4096) × Keyed true (summaryIn (now s)) (now keys) × (class .0 < length (summaryIn (now s) .classes)) ⌝ }
+    requires { ⌜ (wellFormedFile (now s) ≡ true) × (length (now keys) ≡ 4096) × Keyed true (summaryIn (now s)) (now keys)
+        × (class .0 < length (summaryIn (now s) .classes)) ⌝ }
     ensures { λ r. ⌜ Holds (now (q .entry)) 0 (summaryIn (now (s .entry))) (class .0) r ⌝ }
 {
     let k = class.index();
@@ -50,7 +51,8 @@ pub fn put_answers(
     to: usize,
     answers: &mut [bool],
 ) -> Filled
-    requires { ⌜ (wellFormedFile (now s) ≡ true) × (length (now keys) ≡ 4096) × Keyed true (summaryIn (now s)) (now keys) × (to ≤ length (summaryIn (now s) .classes)) × (length (now answers) ≡ 1024) ⌝ }
+    requires { ⌜ (wellFormedFile (now s) ≡ true) × (length (now keys) ≡ 4096) × Keyed true (summaryIn (now s)) (now keys)
+        × (to ≤ length (summaryIn (now s) .classes)) × (length (now answers) ≡ 1024) ⌝ }
     ensures { λ r. ⌜ Answers (now (q .entry)) (summaryIn (now (s .entry))) from to r (now (answers .exit)) ⌝ }
 {
     let mut lowest = [0u16; 1024];
@@ -78,7 +80,8 @@ fn put_each(
     to: usize,
     answers: &mut [bool],
 ) -> Filled
-    requires { ⌜ Consulted (now s) (now keys) (now lowest) × Remembers (now q) (summaryIn (now s)) (now known) × (to ≤ length (summaryIn (now s) .classes)) × (length (now answers) ≡ 1024) ⌝ }
+    requires { ⌜ Consulted (now s) (now keys) (now lowest) × Remembers (now q) (summaryIn (now s)) (now known)
+        × (to ≤ length (summaryIn (now s) .classes)) × (length (now answers) ≡ 1024) ⌝ }
     ensures { λ r. ⌜ Answers (now (q .entry)) (summaryIn (now (s .entry))) from to r (now (answers .exit)) ⌝ }
 {
     let mut k = from;
@@ -102,7 +105,8 @@ fn holds(
     known: &mut [u8],
     class: Class,
 ) -> Asked
-    requires { ⌜ Consulted (now s) (now keys) (now lowest) × Remembers (now q) (summaryIn (now s)) (now known) × (class .0 < length (summaryIn (now s) .classes)) ⌝ }
+    requires { ⌜ Consulted (now s) (now keys) (now lowest) × Remembers (now q) (summaryIn (now s)) (now known)
+        × (class .0 < length (summaryIn (now s) .classes)) ⌝ }
     ensures { λ r. ⌜ Holds (now (q .entry)) at (summaryIn (now (s .entry))) (class .0) r ⌝ }
     ensures known { λ _. ⌜ Remembers (now (q .entry)) (summaryIn (now (s .entry))) (now (known .exit)) ⌝ }
 {
@@ -152,7 +156,8 @@ fn neighbour_count(
     low: usize,
     high: usize,
 ) -> Counted
-    requires { ⌜ Consulted (now s) (now keys) (now lowest) × Remembers (now q) (summaryIn (now s)) (now known) × (low ≤ high) × (high ≤ length (summaryIn (now s) .rows)) ⌝ }
+    requires { ⌜ Consulted (now s) (now keys) (now lowest) × Remembers (now q) (summaryIn (now s)) (now known) × (low ≤ high)
+        × (high ≤ length (summaryIn (now s) .rows)) ⌝ }
     ensures { λ r. ⌜ Counts (now (q .entry)) at (summaryIn (now (s .entry))) low high r ⌝ }
     ensures known { λ _. ⌜ Remembers (now (q .entry)) (summaryIn (now (s .entry))) (now (known .exit)) ⌝ }
 {

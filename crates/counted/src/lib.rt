@@ -19,7 +19,8 @@ ghost use Rattle.header.specs.Proposed.{Proposed};
 // "each item's marks equal its class's".
 pub fn marks_equal(reg: &[u8], n: usize, s: &[u8]) -> bool
     requires { ⌜ OfItems (now reg) n × Proposed (now s) n ⌝ }
-    ensures { λ r. ⌜ r ≡ all (λ x. eqb (marksOf (registerIn (now (reg .entry))) x) (classOf (summaryIn (now (s .entry))) (classAt (summaryIn (now (s .entry))) x) .marks)) n ⌝ }
+    ensures { λ r. ⌜ r ≡ all (λ x. eqb (marksOf (registerIn (now (reg .entry))) x)
+        (classOf (summaryIn (now (s .entry))) (classAt (summaryIn (now (s .entry))) x) .marks)) n ⌝ }
 {
     let mut x = 0;
     while x < n {
@@ -35,8 +36,10 @@ pub fn marks_equal(reg: &[u8], n: usize, s: &[u8]) -> bool
 
 // The items of each class, counted up to ν: "A capped count takes one more .. and gives back the capped count".
 fn put_counts(n: usize, s: &[u8], nu: u8, counts: &mut [u16])
-    requires { ⌜ Proposed (now s) n × (nu ≡ summaryIn (now s) .classCap) × (length (now counts) ≡ 1024) × ((k : ℕ) → k < 1024 → getD (now counts) k 0 ≡ 0) ⌝ }
-    ensures { λ r. ⌜ ((k : ℕ) → k < 1024 → getD (now (counts .exit)) k 0 ≡ cap (summaryIn (now (s .entry)) .classCap) (tally (λ x. eqb (classAt (summaryIn (now (s .entry))) x) k) n)) ⌝ }
+    requires { ⌜ Proposed (now s) n × (nu ≡ summaryIn (now s) .classCap) × (length (now counts) ≡ 1024)
+        × ((k : ℕ) → k < 1024 → getD (now counts) k 0 ≡ 0) ⌝ }
+    ensures { λ r. ⌜ ((k : ℕ) → k < 1024 → getD (now (counts .exit)) k 0
+        ≡ cap (summaryIn (now (s .entry)) .classCap) (tally (λ x. eqb (classAt (summaryIn (now (s .entry))) x) k) n)) ⌝ }
 {
     let mut x = 0;
     while x < n {

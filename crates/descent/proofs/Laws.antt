@@ -118,7 +118,8 @@ module _ (q : List ℕ) (i : ℕ) (R : Register) (d : Direction) (l x : ℕ) whe
     counted : (t : Question) (k : ℕ) → Parsed q i t k → met + cond b 1 0 + tally (λ k. leads d l (holds R t) x (linkOf R k)) (p - 1) ≡ neighbours R d l (holds R t) x
     counted t k u =
         let one = count-own R d l (holds R t) x p h own in
-        let same : cond {A = ℕ} b 1 0 ≡ cond (eqb (linkOf R (p - 1) .label) l && holds R t (far d (linkOf R (p - 1)))) 1 0 = ap (λ (b : Bool). cond {A = ℕ} b 1 0) (says t k u b e) in
+        let same : cond {A = ℕ} b 1 0 ≡ cond (eqb (linkOf R (p - 1) .label) l && holds R t (far d (linkOf R (p - 1)))) 1 0 =
+        ap (λ (b : Bool). cond {A = ℕ} b 1 0) (says t k u b e) in
         omega (arith, f t k u, one, same)
 
     pub met-one : (j : ℕ) → Last R d x (p - 1) j → Met q i R d l x (met + cond b 1 0) j
@@ -155,7 +156,9 @@ item-few b n m y r h = omega (arith, limits b n m r .0)
 -- its label and the neighbour to which it leads are read
 module _ (q : List ℕ) (i : ℕ) (R : Register) (d : Direction) (l k a y : ℕ) (label-is : a ≡ linkOf R k .label) (far-is : y ≡ far d (linkOf R k)) where
   pub leads-other : (a ≡ l → ⊥) → Tells q i (leading R d l k) (Said false)
-  leads-other f = tells-said q i (leading R d l k) false (λ t j p. sym (ap (λ (b : Bool). b && holds R t (far d (linkOf R k))) (ne-eqb (linkOf R k .label) l (λ e. f (label-is ∙ e)))))
+  leads-other f =
+      tells-said q i (leading R d l k) false
+      (λ t j p. sym (ap (λ (b : Bool). b && holds R t (far d (linkOf R k))) (ne-eqb (linkOf R k .label) l (λ e. f (label-is ∙ e)))))
 
   pub leads-there : a ≡ l → (b : Bool) → ((t : Question) (j : ℕ) → Parsed q i t j → b ≡ holds R t y) → Tells q i (leading R d l k) (Said b)
   leads-there e b says =

@@ -168,7 +168,8 @@ fn reaches(
     threshold: u8,
     x: Item,
 ) -> Asked
-    requires { ⌜ Around (now reg) n m (now outs) (now ins) × Remembers (now q) (meant.holds (registerIn (now reg))) (now known) × (1 ≤ threshold) × (threshold ≤ 8) × (x .0 < n) ⌝ }
+    requires { ⌜ Around (now reg) n m (now outs) (now ins) × Remembers (now q) (meant.holds (registerIn (now reg))) (now known) × (1 ≤ threshold)
+        × (threshold ≤ 8) × (x .0 < n) ⌝ }
     ensures { λ r. ⌜ Tells (now (q .entry)) at (reaching (registerIn (now (reg .entry))) way label threshold (x .0)) r ⌝ }
     ensures known { λ _. ⌜ Remembers (now (q .entry)) (meant.holds (registerIn (now (reg .entry)))) (now (known .exit)) ⌝ }
 {

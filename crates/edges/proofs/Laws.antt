@@ -109,7 +109,8 @@ every-distinct P least (v ∷ s) h =
     (λ t. rw t (h .0, every-distinct P (suc v) s (h .1)))
     (λ t. rw t (every-distinct P least s (h .1)))
 
-distinct-rises : (least lo : ℕ) (s : List ℕ) → ((v : ℕ) → least ≤ v → lo ≤ ranked v) → Every (λ v. v < 16777216) s → lo ≤ 4398046511104 → Rising linkKey lo 4398046511104 (distinct least s)
+distinct-rises : (least lo : ℕ) (s : List ℕ) → ((v : ℕ) → least ≤ v → lo ≤ ranked v) → Every (λ v. v < 16777216) s → lo ≤ 4398046511104 →
+    Rising linkKey lo 4398046511104 (distinct least s)
 unfolding distinct Every Rising linkKey unkeyed
 distinct-rises least lo [] g h k = k
 distinct-rises least lo (v ∷ s) g h k =
@@ -143,7 +144,8 @@ key-tells : (a b c : ℕ) → b < 16 → c < 1024 → let v = (a * 16 + b) * 102
 key-tells a b c h k = (omega arith, omega arith, omega arith)
 
 -- what the class list says of an item
-pub class-read : (classes : List ℕ) (n x v : ℕ) → n ≤ length classes → classCount (take n classes) ≤ 1024 → x < n → v ≡ x → (getD classes v 0 ≡ by (take n classes) x) × (getD classes v 0 < 1024)
+pub class-read : (classes : List ℕ) (n x v : ℕ) → n ≤ length classes → classCount (take n classes) ≤ 1024 → x < n → v ≡ x →
+    (getD classes v 0 ≡ by (take n classes) x) × (getD classes v 0 < 1024)
 class-read classes n x v h few u e =
     let a = getD-below (take n classes) x (omega (arith, length-take-le n classes h)) in
     let b : getD classes v 0 ≡ by (take n classes) x = rw e (sym (getD-take n classes x 0 u)) in
@@ -230,7 +232,8 @@ module _ (R : Register) (fine : Fine R) (cs : List ℕ) (long : length cs ≡ it
   joined : ℕ → ℕ → ℕ → Bool
   joined k l k′ = any (joins (by cs) k l k′) (R .links)
 
-  one-joins : (k l k′ x y z : ℕ) (t : Bool) → joined x y z ≡ t → any (joins (λ x. x) k l k′) (cond t (record { source = x; label = y; target = z } ∷ []) []) ≡ true → joined k l k′ ≡ true
+  one-joins : (k l k′ x y z : ℕ) (t : Bool) → joined x y z ≡ t →
+      any (joins (λ x. x) k l k′) (cond t (record { source = x; label = y; target = z } ∷ []) []) ≡ true → joined k l k′ ≡ true
   unfolding any
   one-joins k l k′ x y z true f e =
       let w = joins-parts (λ x. x) k l k′ (record { source = x; label = y; target = z }) (sym (or-false _) ∙ e) in

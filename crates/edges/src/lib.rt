@@ -34,7 +34,8 @@ pub fn class_links(reg: &[u8], n: usize, m: usize, classes: &[u16], out: &mut [u
 // The key of each link, in the order of the links.
 fn put_keys(reg: &[u8], n: usize, m: usize, classes: &[u16], keys: &mut [u64])
     requires { ⌜ OfRegister (now reg) n m × (n ≤ length (now classes)) × (classCount (take n (now classes)) ≤ 1024) × (m ≤ length (now keys)) ⌝ }
-    ensures { λ r. ⌜ now (keys .exit) ≡ tab (λ k. keyOf (take n (now (classes .entry))) (linkOf (registerIn (now (reg .entry))) k)) m ++ drop m (now (keys .entry)) ⌝ }
+    ensures { λ r. ⌜ now (keys .exit) ≡ tab (λ k. keyOf (take n (now (classes .entry))) (linkOf (registerIn (now (reg .entry))) k)) m ++ drop m
+        (now (keys .entry)) ⌝ }
 {
     let mut k = 0;
     while k < m {
@@ -65,7 +66,8 @@ fn class_at(classes: &[u16], n: usize, x: Item) -> Class
 // The class link of every key that differs from those before it: keys are in order, so it is above the last one written.
 fn put_links(keys: &[u64], m: usize, out: &mut [u16]) -> usize
     requires { ⌜ (m ≤ length (now keys)) × (m ≤ 2048) × (length (now out) ≡ 6144) × Every (λ v. v < 16777216) (take m (now keys)) ⌝ }
-    ensures { λ r. ⌜ (r ≡ length (distinct 0 (take m (now (keys .entry))))) × (take (3 * r) (now (out .exit)) ≡ pack edgeNumbers (distinct 0 (take m (now (keys .entry))))) ⌝ }
+    ensures { λ r. ⌜ (r ≡ length (distinct 0 (take m (now (keys .entry)))))
+        × (take (3 * r) (now (out .exit)) ≡ pack edgeNumbers (distinct 0 (take m (now (keys .entry))))) ⌝ }
 {
     let mut least: u64 = 0;
     let mut r = 0;

@@ -26,7 +26,9 @@ pub groups-few : (S : Summary) → groupsUsed S ≡ true → S .groups ≤ lengt
 unfolding groupsUsed
 groups-few S e =
     let one : (q : ℕ) → q < S .groups → 1 ≤ total (λ c. cond (eqb (c .group) q) 1 0) (S .classes) =
-    λ q u. any-total {P = λ c. Unit {0}} (λ c. eqb (c .group) q) (λ c. 1) (S .classes) (every-getD (λ c. Unit {0}) noClass (S .classes) (λ i v. tt)) (λ c p. omega arith) (all-at _ (S .groups) q u e) in
+    λ q u.
+    any-total {P = λ c. Unit {0}} (λ c. eqb (c .group) q) (λ c. 1) (S .classes) (every-getD (λ c. Unit {0}) noClass (S .classes) (λ i v. tt))
+    (λ c p. omega arith) (all-at _ (S .groups) q u e) in
     let turn = sum-total (λ q c. cond (eqb (c .group) q) 1 0) (S .classes) (S .groups) in
     let most = total-le (λ c. sum (λ q. cond (true && eqb (c .group) q) 1 0) (S .groups)) (λ c. 1) (S .classes) (λ c. one-of true (c .group) (S .groups)) in
     omega (arith, at-least (λ q. total (λ c. cond (eqb (c .group) q) 1 0) (S .classes)) (S .groups) one, turn, most, total-length (S .classes))

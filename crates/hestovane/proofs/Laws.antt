@@ -123,7 +123,8 @@ pub condense-short : (b : List ℕ) (room i µ ν : ℕ) → Short (returned (co
 unfolding condense unless into returned Short
 condense-short b room i µ ν = let p = summaryBytes (summaryOf i µ ν (registerIn b)) in go p (summary-most i µ ν b) (fault b) refl (inRange i µ ν) (leb (length p) room)
   where
-    go : (p : List ℕ) → (fault b ≡ 0 → length p ≤ 55320) → (k : ℕ) → fault b ≡ k → (s t : Bool) → Short (returned (unless k (cond s (cond t (wrote p) (Answers.refused 9)) (Answers.refused 4))))
+    go : (p : List ℕ) → (fault b ≡ 0 → length p ≤ 55320) → (k : ℕ) → fault b ≡ k → (s t : Bool) →
+        Short (returned (unless k (cond s (cond t (wrote p) (Answers.refused 9)) (Answers.refused 4))))
     go p h zero e true true = h e
     go p h zero e true false = tt
     go p h zero e false t = tt

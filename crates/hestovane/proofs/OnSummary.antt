@@ -92,7 +92,8 @@ pub gives-refused : (r : Refusal) (d : List ℕ) → Gives (writes.Refused r) d 
 unfolding returned left
 gives-refused r d = record { says = refl; leaves = refl }
 
-pub list-named : (s : List ℕ) (t : Question) (answers : List Bool) → wellFormedFile s ≡ true → ((c : ℕ) → c < length (summaryIn s .classes) → getD answers c false ≡ holdsAt (summaryIn s) t c) →
+pub list-named : (s : List ℕ) (t : Question) (answers : List Bool) → wellFormedFile s ≡ true →
+    ((c : ℕ) → c < length (summaryIn s .classes) → getD answers c false ≡ holdsAt (summaryIn s) t c) →
     those (λ x. getD answers (classAt (summaryIn s) x) false) (length (summaryIn s .map)) ≡ Summary.list (summaryIn s) t
 unfolding Summary.list
 list-named s t answers w e = those-same _ _ (length (summaryIn s .map)) (λ x h. e (classAt (summaryIn s) x) (mapped s x w h))
@@ -129,6 +130,7 @@ pub at-class : (S : Summary) (t : Question) (k c : ℕ) → k ≡ c → holdsAt 
 at-class S t k c e = ap (holdsAt S t) e
 
 -- the summary and the question, judged
-pub readied : (s keys q : List ℕ) (d h : ℕ) → wellFormedFile s ≡ true → length keys ≡ 4096 → Keyed true (summaryIn s) keys → read.accepted d h ≡ read.verdict q → Readied s keys q d h
+pub readied : (s keys q : List ℕ) (d h : ℕ) → wellFormedFile s ≡ true → length keys ≡ 4096 → Keyed true (summaryIn s) keys →
+    read.accepted d h ≡ read.verdict q → Readied s keys q d h
 readied s keys q d h w l k e =
     let v = verdict-accepted q d h e in record { well = w; keys-long = l; kept = k; tree = v .0; reads = v .1; depth-is = v .2; threshold-is = v .3 }

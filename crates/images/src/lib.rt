@@ -43,7 +43,8 @@ fn put_link_keys(s: &[u8], e: usize, keys: &mut [u64])
 // The keys of the images of the links: each end is given its class.
 fn put_image_keys(reg: &[u8], n: usize, m: usize, s: &[u8], keys: &mut [u64])
     requires { ⌜ OfRegister (now reg) n m × Proposed (now s) n × (m ≤ length (now keys)) ⌝ }
-    ensures { λ r. ⌜ now (keys .exit) ≡ tab (λ j. keyBy (classAt (summaryIn (now (s .entry)))) (linkOf (registerIn (now (reg .entry))) j)) m ++ drop m (now (keys .entry)) ⌝ }
+    ensures { λ r. ⌜ now (keys .exit) ≡ tab (λ j. keyBy (classAt (summaryIn (now (s .entry)))) (linkOf (registerIn (now (reg .entry))) j)) m ++
+        drop m (now (keys .entry)) ⌝ }
 {
     let mut j = 0;
     while j < m {

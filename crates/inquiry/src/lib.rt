@@ -65,7 +65,8 @@ fn fill(table: &mut [bool], reg: &[u8], n: usize, m: usize, q: &[u8]) -> Filled
 
 // Row j, where the rows behind it stand.
 fn put_entry(table: &mut [bool], reg: &[u8], n: usize, m: usize, q: &[u8], j: usize) -> Filled
-    requires { ⌜ Room (now table) n j × OfRegister (now reg) n m × Whole (now q) × (j < length (now q) / 4) × Known (registerIn (now reg)) (now q) n (now table) (j + 1) ⌝ }
+    requires { ⌜ Room (now table) n j × OfRegister (now reg) n m × Whole (now q) × (j < length (now q) / 4)
+        × Known (registerIn (now reg)) (now q) n (now table) (j + 1) ⌝ }
     ensures { λ r. ⌜ Fills r (registerIn (now (reg .entry))) (now (q .entry)) n (now (table .exit)) j ⌝ }
 {
     let Reading::Entry(kind) = entry::read(q, j) else {
@@ -99,7 +100,8 @@ fn put_entry(table: &mut [bool], reg: &[u8], n: usize, m: usize, q: &[u8], j: us
 
 // "and, or, two operands": the first stands at entry j + 1, the second where the first ends.
 fn put_operands(table: &mut [bool], reg: &[u8], n: usize, q: &[u8], j: usize, any: bool) -> Filled
-    requires { ⌜ Room (now table) n j × Whole (now q) × (entryAt (now q) j ≡ some (pairKind any)) × Known (registerIn (now reg)) (now q) n (now table) (j + 1) ⌝ }
+    requires { ⌜ Room (now table) n j × Whole (now q) × (entryAt (now q) j ≡ some (pairKind any))
+        × Known (registerIn (now reg)) (now q) n (now table) (j + 1) ⌝ }
     ensures { λ r. ⌜ Fills r (registerIn (now (reg .entry))) (now (q .entry)) n (now (table .exit)) j ⌝ }
 {
     let Spanned::Tree {
@@ -139,7 +141,8 @@ fn put_at_least(
     threshold: u8,
 )
     requires { ⌜ Room (now table) n (j + 1) × OfRegister (now reg) n m ⌝ }
-    ensures { λ r. ⌜ Writes (now (table .entry)) (now (table .exit)) n j (λ x. leb threshold (neighbours (registerIn (now (reg .entry))) way label (row (now (table .entry)) (j + 1)) x)) ⌝ }
+    ensures { λ r. ⌜ Writes (now (table .entry)) (now (table .exit)) n j
+        (λ x. leb threshold (neighbours (registerIn (now (reg .entry))) way label (row (now (table .entry)) (j + 1)) x)) ⌝ }
 {
     let counts = table::count(table, j + 1, reg, n, m, way, label);
     table::put_reached(table, n, j, &counts, threshold as u16);

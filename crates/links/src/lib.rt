@@ -48,7 +48,8 @@ pub fn fine(b: &[u8], at: usize, m: usize, n: usize) -> bool
 // comparison.
 fn rest_at(b: &[u8], at: usize) -> u32
     requires { ⌜ at + 6 ≤ length (now b) ⌝ }
-    ensures { λ r. ⌜ (r ≡ linkAt (now (b .entry)) at .label * 65536 + linkAt (now (b .entry)) at .target) × (linkAt (now (b .entry)) at .target < 65536) ⌝ }
+    ensures { λ r. ⌜ (r ≡ linkAt (now (b .entry)) at .label * 65536 + linkAt (now (b .entry)) at .target)
+        × (linkAt (now (b .entry)) at .target < 65536) ⌝ }
 {
     let label = wire::two(b, at + 2);
     let target = wire::two(b, at + 4);

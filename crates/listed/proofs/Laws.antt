@@ -34,7 +34,8 @@ module _ (p : ℕ → Bool) where
 
 -- ---- one item put, or none
 
-pub put-named : (out : List ℕ) (r x : ℕ) (t : Bool) → r < length out → t ≡ true → (r + 1 ≡ r + length (cond t (x ∷ []) [])) × (take (r + 1) (set out r x) ≡ take r out ++ cond t (x ∷ []) [])
+pub put-named : (out : List ℕ) (r x : ℕ) (t : Bool) → r < length out → t ≡ true →
+    (r + 1 ≡ r + length (cond t (x ∷ []) [])) × (take (r + 1) (set out r x) ≡ take r out ++ cond t (x ∷ []) [])
 put-named out r x t h e = let z : r + 1 ≡ suc r = omega arith in rw e (omega arith, rw z (take-suc-set out r x h))
 
 pub put-none : (out : List ℕ) (r x : ℕ) (t : Bool) → t ≡ false → (r ≡ r + length (cond t (x ∷ []) [])) × (take r out ≡ take r out ++ cond t (x ∷ []) [])
@@ -45,12 +46,14 @@ pub mapped : (s : List ℕ) (x : ℕ) → wellFormedFile s ≡ true → x < leng
 unfolding classAt
 mapped s x w h =
     let p = number-parts (summaryIn s) (well-parts (summaryIn s) (well-file s w .1) .2) .3 in
-    every-at (λ k. k < length (summaryIn s .classes)) 0 (summaryIn s .map) (each-every (λ k. ltb k (length (summaryIn s .classes))) (summaryIn s .map) p (λ k e. ltb-true k (length (summaryIn s .classes)) e)) x h
+    every-at (λ k. k < length (summaryIn s .classes)) 0 (summaryIn s .map)
+    (each-every (λ k. ltb k (length (summaryIn s .classes))) (summaryIn s .map) p (λ k e. ltb-true k (length (summaryIn s .classes)) e)) x h
 
 pub class-low : (s : List ℕ) (x : ℕ) → wellFormedFile s ≡ true → x < length (summaryIn s .map) → classAt (summaryIn s) x < 1024
 class-low s x w h = omega (arith, mapped s x w h, sized-file s w .few-classes)
 
-pub next-named : (p : ℕ → Bool) (out out′ : List ℕ) (r r′ x v : ℕ) (t : Bool) → t ≡ p x → v ≡ x → r ≡ length (those p x) → take r out ≡ those p x → r′ ≡ r + length (cond t (v ∷ []) []) → take r′ out′ ≡ take r out ++ cond t (v ∷ []) [] →
+pub next-named : (p : ℕ → Bool) (out out′ : List ℕ) (r r′ x v : ℕ) (t : Bool) → t ≡ p x → v ≡ x → r ≡ length (those p x) → take r out ≡ those p x →
+    r′ ≡ r + length (cond t (v ∷ []) []) → take r′ out′ ≡ take r out ++ cond t (v ∷ []) [] →
     (r′ ≡ length (those p (x + 1))) × (take r′ out′ ≡ those p (x + 1))
 next-named p out out′ r r′ x v t e w f g h k =
     let o = one-more p x in

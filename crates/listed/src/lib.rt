@@ -18,8 +18,10 @@ ghost use Rattle.said.specs.Written.{Gives};
 // How many they are; their numbers are left at the start of `out`.
 pub fn put_items(s: &[u8], answers: &[bool], out: &mut [u16]) -> usize
     requires { ⌜ (wellFormedFile (now s) ≡ true) × (length (now answers) ≡ 1024) × (length (now out) ≡ 1024) ⌝ }
-    ensures { λ r. ⌜ (r ≡ length (those (λ x. getD (now (answers .entry)) (classAt (summaryIn (now (s .entry))) x) false) (length (summaryIn (now (s .entry)) .map))))
-        × (take r (now (out .exit)) ≡ those (λ x. getD (now (answers .entry)) (classAt (summaryIn (now (s .entry))) x) false) (length (summaryIn (now (s .entry)) .map))) ⌝ }
+    ensures { λ r. ⌜ (r ≡ length (those (λ x. getD (now (answers .entry)) (classAt (summaryIn (now (s .entry))) x) false)
+        (length (summaryIn (now (s .entry)) .map))))
+        × (take r (now (out .exit)) ≡ those (λ x. getD (now (answers .entry)) (classAt (summaryIn (now (s .entry))) x) false)
+        (length (summaryIn (now (s .entry)) .map))) ⌝ }
 {
     let n = reader::items(s);
     let mut r = 0;
@@ -35,7 +37,8 @@ pub fn put_items(s: &[u8], answers: &[bool], out: &mut [u16]) -> usize
 // One item more, if it is on the list.
 fn put_item(out: &mut [u16], r: usize, x: u16, named: bool) -> usize
     requires { ⌜ (r < length (now out)) × (length (now out) ≡ 1024) ⌝ }
-    ensures { λ res. ⌜ (res ≡ r + length (cond named (x ∷ []) [])) × (take res (now (out .exit)) ≡ take r (now (out .entry)) ++ cond named (x ∷ []) []) ⌝ }
+    ensures { λ res. ⌜ (res ≡ r + length (cond named (x ∷ []) []))
+        × (take res (now (out .exit)) ≡ take r (now (out .entry)) ++ cond named (x ∷ []) []) ⌝ }
 {
     if named {
         out[r] = x;

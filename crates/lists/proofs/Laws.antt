@@ -84,7 +84,8 @@ two-written t u v m f g h w x =
     rw z
     (front v (m + m) (omega (arith, w .long, x .long))
     ∙ tab-more (λ i. getD v i 0) m m
-    ∙ ap (λ (l : List ℕ). l ++ tab (λ i. getD v (m + i) 0) m) (tab-same (λ i. getD v i 0) f m (λ i h. let q : i ≡ 0 + i = omega arith in x .kept i h ∙ ap (λ (j : ℕ). getD u j 0) q ∙ w .says i h))
+    ∙ ap (λ (l : List ℕ). l ++ tab (λ i. getD v (m + i) 0) m)
+    (tab-same (λ i. getD v i 0) f m (λ i h. let q : i ≡ 0 + i = omega arith in x .kept i h ∙ ap (λ (j : ℕ). getD u j 0) q ∙ w .says i h))
     ∙ ap (λ (l : List ℕ). tab f m ++ l) (tab-same (λ i. getD v (m + i) 0) g m (λ i u. x .says i u)))
 
 -- ---- a test of numbers, one after another

@@ -63,7 +63,8 @@ fn put_marks(marks: &[u32], n: usize, out: &mut [u64])
 
 // The lowest item with the marks of each item: the first of its run.
 fn find_marked(marks: &[u32], n: usize, s: &[u64], firsts: &mut [u16])
-    requires { ⌜ (n ≤ 1024) × (n ≤ length (now marks)) × Listed (λ x. getD (now marks) x 0) n (now s) × (n ≤ length (now s)) × (n ≤ length (now firsts)) ⌝ }
+    requires { ⌜ (n ≤ 1024) × (n ≤ length (now marks)) × Listed (λ x. getD (now marks) x 0) n (now s) × (n ≤ length (now s))
+        × (n ≤ length (now firsts)) ⌝ }
     ensures { λ r. ⌜ ((x : ℕ) → x < n → getD (now (firsts .exit)) x 0 ≡ first (sameMarks (now (marks .entry))) x) ⌝ }
 {
     let mut r = 0;

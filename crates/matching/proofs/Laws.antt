@@ -53,11 +53,16 @@ module _ (S : Summary) (j x w y : ℕ) where
   asked-in d e f g h = rw (e, f, g, h)
 
 -- the keys that the code holds against one another
-pub match-by : (S : Summary) → numbers S ≡ true → S .groups ≤ 1024 → (r : ℕ) (keys asked asked′ t : List ℕ) → r ≡ length (S .rows) → Keyed true S keys → (e : ℕ) → e ≡ length (S .links) →
-    e + e ≤ length t → Writes t asked 0 (length (S .links)) (askedKey S Outgoing) → Writes asked asked′ e (length (S .links)) (askedKey S Incoming) → sameMembers (take r keys) (take (2 * e) asked′) ≡ rowsMatch S
+pub match-by : (S : Summary) → numbers S ≡ true → S .groups ≤ 1024 → (r : ℕ) (keys asked asked′ t : List ℕ) → r ≡ length (S .rows) →
+    Keyed true S keys → (e : ℕ) → e ≡ length (S .links) →
+    e + e ≤ length t → Writes t asked 0 (length (S .links)) (askedKey S Outgoing) → Writes asked asked′ e (length (S .links)) (askedKey S Incoming) →
+    sameMembers (take r keys) (take (2 * e) asked′) ≡ rowsMatch S
 unfolding askedKeys
 match-by S fine few r keys asked asked′ t er k e ee h w x =
     let a : take r keys ≡ rowKeys S = ap (λ (n : ℕ). take n keys) er ∙ k .kept refl in
-    let y : Writes asked asked′ (length (S .links)) (length (S .links)) (askedKey S Incoming) = subst (λ (n : ℕ). Writes asked asked′ n (length (S .links)) (askedKey S Incoming)) ee x in
-    let b : take (2 * e) asked′ ≡ askedKeys S = ap (λ (n : ℕ). take (2 * n) asked′) ee ∙ two-written t asked asked′ (length (S .links)) (askedKey S Outgoing) (askedKey S Incoming) (omega (arith, ee)) w y in
+    let y : Writes asked asked′ (length (S .links)) (length (S .links)) (askedKey S Incoming) =
+    subst (λ (n : ℕ). Writes asked asked′ n (length (S .links)) (askedKey S Incoming)) ee x in
+    let b : take (2 * e) asked′ ≡ askedKeys S =
+    ap (λ (n : ℕ). take (2 * n) asked′) ee
+    ∙ two-written t asked asked′ (length (S .links)) (askedKey S Outgoing) (askedKey S Incoming) (omega (arith, ee)) w y in
     rw (a, b) (rows-matched S fine (omega arith))

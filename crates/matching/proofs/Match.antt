@@ -68,7 +68,9 @@ module _ (S : Summary) (fine : numbers S ≡ true) where
 
   pub row-at : (j : ℕ) → j < length (S .rows) → ((rowOf S j) .class < length (S .classes)) × ((rowOf S j) .label < 16) × ((rowOf S j) .group < S .groups)
   unfolding rowOf
-  row-at j h = every-at (λ r. (r .class < length (S .classes)) × (r .label < 16) × (r .group < S .groups)) noRow (S .rows) (each-every (rowIn S) (S .rows) (number-parts S fine .1) (row-facts S)) j h
+  row-at j h =
+      every-at (λ r. (r .class < length (S .classes)) × (r .label < 16) × (r .group < S .groups)) noRow (S .rows)
+      (each-every (rowIn S) (S .rows) (number-parts S fine .1) (row-facts S)) j h
 
   pub link-at : (j : ℕ) → j < length (S .links) → ((link j) .source < length (S .classes)) × ((link j) .label < 16) × ((link j) .target < length (S .classes))
   link-at j h =
@@ -97,9 +99,13 @@ module _ (S : Summary) (fine : numbers S ≡ true) where
 
     asks-link : (d : Direction) (j : ℕ) → j < length (S .links) → Asks (askedKey S d j)
     unfolding askedKeys
-    asks-link Outgoing j h = any-append (eqb (askedKey S Outgoing j)) (tab (askedKey S Outgoing) (length (S .links))) _ ∙ rw (in-tab (askedKey S Outgoing) (length (S .links)) _ j h refl)
+    asks-link Outgoing j h =
+        any-append (eqb (askedKey S Outgoing j)) (tab (askedKey S Outgoing) (length (S .links))) _
+        ∙ rw (in-tab (askedKey S Outgoing) (length (S .links)) _ j h refl)
     asks-link Incoming j h =
-        any-append (eqb (askedKey S Incoming j)) (tab (askedKey S Outgoing) (length (S .links))) _ ∙ rw (in-tab (askedKey S Incoming) (length (S .links)) _ j h refl) (or-true (any (eqb (askedKey S Incoming j)) (tab (askedKey S Outgoing) (length (S .links)))))
+        any-append (eqb (askedKey S Incoming j)) (tab (askedKey S Outgoing) (length (S .links))) _
+        ∙ rw (in-tab (askedKey S Incoming) (length (S .links)) _ j h refl)
+        (or-true (any (eqb (askedKey S Incoming j)) (tab (askedKey S Outgoing) (length (S .links)))))
       where
         or-true : (t : Bool) → t || true ≡ true
         or-true true = refl
@@ -110,7 +116,8 @@ module _ (S : Summary) (fine : numbers S ≡ true) where
     link-asked v e =
         let n = length (S .links) in
         let f : any (eqb v) (tab (askedKey S Outgoing) n) || any (eqb v) (tab (askedKey S Incoming) n) ≡ true = sym (any-append (eqb v) (tab (askedKey S Outgoing) n) _) ∙ e in
-        ⊎-elim (λ u. let r = of-tab (askedKey S Outgoing) n v u in (Outgoing, r .0, r .1, r .2)) (λ u. let r = of-tab (askedKey S Incoming) n v u in (Incoming, r .0, r .1, r .2)) (or-inv _ _ f)
+        ⊎-elim (λ u. let r = of-tab (askedKey S Outgoing) n v u in (Outgoing, r .0, r .1, r .2))
+        (λ u. let r = of-tab (askedKey S Incoming) n v u in (Incoming, r .0, r .1, r .2)) (or-inv _ _ f)
 
     -- a row stands for a class, direction, label and group where its key is there
     pub row-stands : (k : ℕ) (d : Direction) (l q : ℕ) → hasRow S k d l q ≡ true → any (eqb (keyFor k d l q)) (rowKeys S) ≡ true
@@ -151,7 +158,8 @@ module _ (S : Summary) (fine : numbers S ≡ true) where
         (leads-make (r .0) l (λ c. eqb ((classOf S c) .group) q) k a (p .0) (p .2) (eq-eqb _ q (p .3))))
 
     -- every key that is asked for is there, and every key that is there is asked for
-    members : sameMembers (rowKeys S) (askedKeys S) ≡ true → ((d : Direction) (j : ℕ) → j < length (S .links) → Has (askedKey S d j)) × ((j : ℕ) → j < length (S .rows) → Asks (rowKey (rowOf S j)))
+    members : sameMembers (rowKeys S) (askedKeys S) ≡ true →
+        ((d : Direction) (j : ℕ) → j < length (S .links) → Has (askedKey S d j)) × ((j : ℕ) → j < length (S .rows) → Asks (rowKey (rowOf S j)))
     unfolding sameMembers askedKeys rowKeys
     members e =
         let f = and-inv (each (λ a. any (eqb a) (rowKeys S)) (askedKeys S)) (each (λ b. any (eqb b) (askedKeys S)) (rowKeys S)) e in
@@ -163,14 +171,16 @@ module _ (S : Summary) (fine : numbers S ≡ true) where
             let f = and-inv _ _ (sym (each-append (λ a. any (eqb a) (rowKeys S)) (tab (askedKey S Outgoing) n) (tab (askedKey S Incoming) n)) ∙ e) in
             go f d
           where
-            go : (each (λ a. any (eqb a) (rowKeys S)) (tab (askedKey S Outgoing) (length (S .links))) ≡ true) × (each (λ a. any (eqb a) (rowKeys S)) (tab (askedKey S Incoming) (length (S .links))) ≡ true) → (d : Direction) → Has (askedKey S d j)
+            go : (each (λ a. any (eqb a) (rowKeys S)) (tab (askedKey S Outgoing) (length (S .links))) ≡ true) × (each (λ a. any (eqb a) (rowKeys S)) (tab (askedKey S Incoming) (length (S .links))) ≡ true) →
+                (d : Direction) → Has (askedKey S d j)
             go f Outgoing = all-at _ (length (S .links)) j h (sym (each-tab _ (askedKey S Outgoing) (length (S .links))) ∙ f .0)
             go f Incoming = all-at _ (length (S .links)) j h (sym (each-tab _ (askedKey S Incoming) (length (S .links))) ∙ f .1)
 
         had : each (λ b. any (eqb b) (askedKeys S)) (rowKeys S) ≡ true → (j : ℕ) → j < length (S .rows) → Asks (rowKey (rowOf S j))
         had e j h = all-at _ (length (S .rows)) j h (sym (each-tab (λ b. any (eqb b) (askedKeys S)) (λ j. rowKey (rowOf S j)) (length (S .rows))) ∙ e)
 
-    are-members : ((d : Direction) (j : ℕ) → j < length (S .links) → Has (askedKey S d j)) → ((j : ℕ) → j < length (S .rows) → Asks (rowKey (rowOf S j))) → sameMembers (rowKeys S) (askedKeys S) ≡ true
+    are-members : ((d : Direction) (j : ℕ) → j < length (S .links) → Has (askedKey S d j)) →
+        ((j : ℕ) → j < length (S .rows) → Asks (rowKey (rowOf S j))) → sameMembers (rowKeys S) (askedKeys S) ≡ true
     unfolding sameMembers askedKeys rowKeys
     are-members f g = and-yes asked had
       where
@@ -197,7 +207,9 @@ module _ (S : Summary) (fine : numbers S ≡ true) where
         same false true e = e
         same false false e = refl
 
-        go : (d : Direction) → (Bool·beq (hasRow S k Outgoing l q) (hasLink S k Outgoing l q) ≡ true) × (Bool·beq (hasRow S k Incoming l q) (hasLink S k Incoming l q) ≡ true) → hasRow S k d l q ≡ hasLink S k d l q
+        go : (d : Direction) →
+            (Bool·beq (hasRow S k Outgoing l q) (hasLink S k Outgoing l q) ≡ true) × (Bool·beq (hasRow S k Incoming l q) (hasLink S k Incoming l q) ≡ true) →
+            hasRow S k d l q ≡ hasLink S k d l q
         go Outgoing g = same _ _ (g .0)
         go Incoming g = same _ _ (g .1)
 

@@ -17,7 +17,8 @@ ghost use Rattle.matching.specs.Keys.{askedKey, Keyed};
 
 // "a row stands for a class, direction, label and group exactly when a class link joins that class to some class of the group that way".
 pub fn rows_match(s: &[u8], keys: &[u64]) -> bool
-    requires { ⌜ Sized (now s) × (numbers (summaryIn (now s)) ≡ true) × (ascends rowKey (summaryIn (now s) .rows) ≡ true) × Keyed true (summaryIn (now s)) (now keys) × (summaryIn (now s) .groups ≤ 1024) × (length (now keys) ≡ 4096) ⌝ }
+    requires { ⌜ Sized (now s) × (numbers (summaryIn (now s)) ≡ true) × (ascends rowKey (summaryIn (now s) .rows) ≡ true)
+        × Keyed true (summaryIn (now s)) (now keys) × (summaryIn (now s) .groups ≤ 1024) × (length (now keys) ≡ 4096) ⌝ }
     ensures { λ r. ⌜ r ≡ rowsMatch (summaryIn (now (s .entry))) ⌝ }
 {
     if reader::links(s) <= 64 {
@@ -30,7 +31,8 @@ pub fn rows_match(s: &[u8], keys: &[u64]) -> bool
 
 // The same, with room lent for the keys that are asked for: where they are few, little has to be cleared.
 fn matched(s: &[u8], keys: &[u64], asked: &mut [u64]) -> bool
-    requires { ⌜ Sized (now s) × (numbers (summaryIn (now s)) ≡ true) × (ascends rowKey (summaryIn (now s) .rows) ≡ true) × Keyed true (summaryIn (now s)) (now keys) × (summaryIn (now s) .groups ≤ 1024) × (length (now keys) ≡ 4096)
+    requires { ⌜ Sized (now s) × (numbers (summaryIn (now s)) ≡ true) × (ascends rowKey (summaryIn (now s) .rows) ≡ true)
+        × Keyed true (summaryIn (now s)) (now keys) × (summaryIn (now s) .groups ≤ 1024) × (length (now keys) ≡ 4096)
         × (2 * length (summaryIn (now s) .links) ≤ length (now asked)) × (length (now asked) ≤ 4096) ⌝ }
     ensures { λ r. ⌜ r ≡ rowsMatch (summaryIn (now (s .entry))) ⌝ }
 {
@@ -42,8 +44,10 @@ fn matched(s: &[u8], keys: &[u64], asked: &mut [u64]) -> bool
 
 // The keys of the rows that the class links ask for, seen that way, from a place on.
 fn put_asked(s: &[u8], way: Direction, asked: &mut [u64], at: usize)
-    requires { ⌜ Sized (now s) × (numbers (summaryIn (now s)) ≡ true) × (at + length (summaryIn (now s) .links) ≤ length (now asked)) × (length (now asked) ≤ 4096) ⌝ }
-    ensures { λ _. ⌜ Writes (now (asked .entry)) (now (asked .exit)) at (length (summaryIn (now (s .entry)) .links)) (askedKey (summaryIn (now (s .entry))) way) ⌝ }
+    requires { ⌜ Sized (now s) × (numbers (summaryIn (now s)) ≡ true) × (at + length (summaryIn (now s) .links) ≤ length (now asked))
+        × (length (now asked) ≤ 4096) ⌝ }
+    ensures { λ _. ⌜ Writes (now (asked .entry)) (now (asked .exit)) at (length (summaryIn (now (s .entry)) .links))
+        (askedKey (summaryIn (now (s .entry))) way) ⌝ }
 {
     let e = reader::links(s);
     let mut j = 0;

@@ -75,8 +75,12 @@ pair =
     0 ∷ 0 ∷ 0 ∷ 0 ∷ 0 ∷ 1 ∷
     0 ∷ 0 ∷ 0 ∷ 0 ∷ 0 ∷ 2 ∷ []
 
+-- "the empty register gives 24 bytes, all offsets 24"
 empty : List ℕ
 empty = 0 ∷ 0 ∷ 0 ∷ 0 ∷ 0 ∷ 12 ∷ 0 ∷ 12 ∷ 0 ∷ 12 ∷ 0 ∷ 0 ∷ []
+
+none : List ℕ
+none = 0 ∷ 1 ∷ 0 ∷ 1 ∷ 0 ∷ 1 ∷ 0 ∷ 0 ∷ 0 ∷ 0 ∷ 0 ∷ 0 ∷ 0 ∷ 0 ∷ 0 ∷ 0 ∷ 0 ∷ 24 ∷ 0 ∷ 24 ∷ 0 ∷ 24 ∷ 0 ∷ 24 ∷ []
 
 -- ---- questions, entry by entry
 
@@ -199,7 +203,7 @@ table =
     record { P = 10; got = row 1 pair 1; want = wrote (0 ∷ 0 ∷ 2 ∷ 1 ∷ []) } ∷
     record { P = 10; got = asked 1 pair (out 2 ++ truth); want = said true } ∷
     -- P11: "the empty register gives 24 bytes, all offsets 24"
-    record { P = 11; got = condense 1 1 1 empty 24; want = wrote (0 ∷ 1 ∷ 0 ∷ 1 ∷ 0 ∷ 1 ∷ 0 ∷ 0 ∷ 0 ∷ 0 ∷ 0 ∷ 0 ∷ 0 ∷ 0 ∷ 0 ∷ 0 ∷ 0 ∷ 24 ∷ 0 ∷ 24 ∷ 0 ∷ 24 ∷ 0 ∷ 24 ∷ []) } ∷
+    record { P = 11; got = condense 1 1 1 empty 24; want = wrote none } ∷
     record { P = 11; got = condense 1 1 1 empty 23; want = refused 9 } ∷
     []
 
@@ -209,7 +213,7 @@ passes (c ∷ cs) = equal (c .got) (c .want) && passes cs
 
 -- every case of the table is answered as document 01 says: computed with the definitions of each page, which are named here
 pub examples : T (passes table)
-unfolding passes table same equal entry literal out incoming truth A S1 chain three pair empty counts asked row bytes
+unfolding passes table same equal entry literal out incoming truth A S1 chain three pair empty none counts asked row bytes
     Count.sum Count.all Count.those Count.seek Count.tab Count.join Count.total Count.any Count.each Count.ascends
     Register.marksOf Register.sameWay Register.near Register.far Register.leads Register.neighbours
     Level.sameCount Level.sameAround Level.alike Level.first Level.lowest Level.number Level.classList Level.classCount Level.lowestItem

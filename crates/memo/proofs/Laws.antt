@@ -108,7 +108,8 @@ module _ (q : List ℕ) (truth : Question → ℕ → Bool) (known : List ℕ) (
       Kept : ℕ → ℕ → Question → Type 0
       Kept j y t = (getD (set known (slot i x) (tell b)) (1024 * j + y) 0 ≡ 0) ⊎ (getD (set known (slot i x) (tell b)) (1024 * j + y) 0 ≡ tell (truth t y))
 
-      other : (j y : ℕ) → j < 64 → y < 1024 → (t : Question) (k : ℕ) → Parsed q j t k → getD (set known (slot i x) (tell b)) (1024 * j + y) 0 ≡ getD known (1024 * j + y) 0 → Kept j y t
+      other : (j y : ℕ) → j < 64 → y < 1024 → (t : Question) (k : ℕ) → Parsed q j t k →
+          getD (set known (slot i x) (tell b)) (1024 * j + y) 0 ≡ getD known (1024 * j + y) 0 → Kept j y t
       other j y u w t k p e = ⊎-elim (λ z. inl (e ∙ z)) (λ z. inr (e ∙ z)) (r .so j y u w t k p)
 
       outside : (j y : ℕ) → j < 64 → y < 1024 → (t : Question) (k : ℕ) → Parsed q j t k → 64 ≤ i → Kept j y t
@@ -124,6 +125,8 @@ module _ (q : List ℕ) (truth : Question → ℕ → Bool) (known : List ℕ) (
           let e : slot i x ≡ 1024 * i + x = ap (λ (c : Bool). cond c (1024 * i + x) 65536) (lt-ltb i 64 h) in
           by-eq (1024 * j + y) (slot i x)
           (λ z. by-lt (slot i x) (length known)
-          (λ s. here j y t k p (omega (arith, z, e)) (omega (arith, z, e)) (ap (λ (m : ℕ). getD (set known (slot i x) (tell b)) m 0) z ∙ getD-set-same known (slot i x) (tell b) 0 s))
+          (λ s.
+          here j y t k p (omega (arith, z, e)) (omega (arith, z, e))
+          (ap (λ (m : ℕ). getD (set known (slot i x) (tell b)) m 0) z ∙ getD-set-same known (slot i x) (tell b) 0 s))
           (λ s. other j y u w t k p (ap (λ (l : List ℕ). getD l (1024 * j + y) 0) (set-out known (slot i x) (tell b) s))))
           (λ z. other j y u w t k p (getD-set-other known (slot i x) (1024 * j + y) (tell b) 0 z))

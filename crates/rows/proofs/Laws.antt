@@ -48,7 +48,10 @@ module _ (s : List ℕ) (k : ℕ) where
   unfolding often hits
   often-none v p a c =
       sum-zero _ k
-      (λ i h. ap (λ (t : Bool). cond t 1 0) (by-bool (ltb i p) (λ t. ne-eqb (getD s i 0) v (λ e. omega (arith, a i (ltb-true i p t)))) (λ t. ne-eqb (getD s i 0) v (λ e. omega (arith, c i (ltb-false i p t) h)))))
+      (λ i h.
+      ap (λ (t : Bool). cond t 1 0)
+      (by-bool (ltb i p) (λ t. ne-eqb (getD s i 0) v (λ e. omega (arith, a i (ltb-true i p t))))
+      (λ t. ne-eqb (getD s i 0) v (λ e. omega (arith, c i (ltb-false i p t) h)))))
 
 -- ---- sorting the keys changes no count
 

@@ -227,7 +227,8 @@ marks-next keys needed r j old marked h p s =
     record {
       mark = λ i k.
           s i k
-          ∙ rw (p .mark i k, add-one j, take-suc needed j 0 h, any-append (eqb (getD keys i 0)) (take j needed) (getD needed j 0 ∷ []), or-false (eqb (getD keys i 0) (getD needed j 0)));
+          ∙ rw
+          (p .mark i k, add-one j, take-suc needed j 0 h, any-append (eqb (getD keys i 0)) (take j needed) (getD needed j 0 ∷ []), or-false (eqb (getD keys i 0) (getD needed j 0)));
     }
 
 -- ---- the members

@@ -99,7 +99,8 @@ fn find_in_class(keys: &[u64], r: usize, starts: &[u16], c: usize, number: u64) 
 
 // A number's key marked; false if no key is that number.
 fn mark(keys: &[u64], r: usize, starts: &[u16], c: usize, number: u64, marked: &mut [bool]) -> bool
-    requires { ⌜ (r ≤ length (now keys)) × (r ≤ length (now marked)) × (ascends (λ k. k) (take r (now keys)) ≡ true) × Laid (now starts) (take r (now keys)) c ⌝ }
+    requires { ⌜ (r ≤ length (now keys)) × (r ≤ length (now marked)) × (ascends (λ k. k) (take r (now keys)) ≡ true)
+        × Laid (now starts) (take r (now keys)) c ⌝ }
     ensures { λ res. ⌜ (res ≡ any (eqb number) (take r (now (keys .entry))))
         × ((i : ℕ) → i < r → getD (now (marked .exit)) i false ≡ getD (now (marked .entry)) i false || eqb (getD (now (keys .entry)) i 0) number) ⌝ }
 {

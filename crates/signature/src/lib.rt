@@ -61,7 +61,8 @@ fn same(groups: &[u16], starts: &[u16], rows: &[u64], n: usize, x: usize, y: usi
 // Each item with its hash, in one word.
 fn put_hashes(groups: &[u16], starts: &[u16], rows: &[u64], n: usize, out: &mut [u64])
     requires { ⌜ Laid (now groups) (now starts) (now rows) n × (n ≤ length (now out)) ⌝ }
-    ensures { λ r. ⌜ now (out .exit) ≡ tab (pack (hashSig (now (groups .entry)) (now (starts .entry)) (now (rows .entry)))) n ++ drop n (now (out .entry)) ⌝ }
+    ensures { λ r. ⌜ now (out .exit) ≡ tab (pack (hashSig (now (groups .entry)) (now (starts .entry)) (now (rows .entry)))) n
+        ++ drop n (now (out .entry)) ⌝ }
 {
     let mut x = 0;
     while x < n {
@@ -80,8 +81,10 @@ fn leader(
     r: usize,
     p: usize,
 ) -> usize
-    requires { ⌜ Laid (now groups) (now starts) (now rows) n × (n ≤ length (now s)) × ((q : ℕ) → q < n → item (now s) q < n) × (r ≤ p) × (p < n) ⌝ }
-    ensures { λ y. ⌜ (y ≡ item (now (s .entry)) (seek (λ q. alikeSig (now (groups .entry)) (now (starts .entry)) (now (rows .entry)) (item (now (s .entry)) q) (item (now (s .entry)) p)) r (p - r)))
+    requires { ⌜ Laid (now groups) (now starts) (now rows) n × (n ≤ length (now s))
+        × ((q : ℕ) → q < n → item (now s) q < n) × (r ≤ p) × (p < n) ⌝ }
+    ensures { λ y. ⌜ (y ≡ item (now (s .entry)) (seek (λ q.
+        alikeSig (now (groups .entry)) (now (starts .entry)) (now (rows .entry)) (item (now (s .entry)) q) (item (now (s .entry)) p)) r (p - r)))
         × (y < n) ⌝ }
 {
     let x = (s[p] % 1024) as usize;
@@ -105,8 +108,10 @@ fn find_firsts(
     s: &[u64],
     firsts: &mut [u16],
 )
-    requires { ⌜ Laid (now groups) (now starts) (now rows) n × Listed (hashSig (now groups) (now starts) (now rows)) n (now s) × (n ≤ length (now s)) × (n ≤ length (now firsts)) ⌝ }
-    ensures { λ r. ⌜ ((x : ℕ) → x < n → getD (now (firsts .exit)) x 0 ≡ first (alikeSig (now (groups .entry)) (now (starts .entry)) (now (rows .entry))) x) ⌝ }
+    requires { ⌜ Laid (now groups) (now starts) (now rows) n × Listed (hashSig (now groups) (now starts) (now rows)) n (now s)
+        × (n ≤ length (now s)) × (n ≤ length (now firsts)) ⌝ }
+    ensures { λ r. ⌜ ((x : ℕ) → x < n → getD (now (firsts .exit)) x 0
+        ≡ first (alikeSig (now (groups .entry)) (now (starts .entry)) (now (rows .entry))) x) ⌝ }
 {
     let mut r = 0;
     let mut p = 0;

@@ -92,7 +92,8 @@ module _ (d head classes : List ℕ) (c : ℕ) (rows : List ℕ) (r : ℕ) (edge
       size-two : (s t : List ℕ) → length (pack put2 (s ++ t)) ≡ length (pack put2 s) + length (pack put2 t)
       size-two s t = ap length (pack-append put2 s t) ∙ length-append (pack put2 s) (pack put2 t)
 
-      join-two : (s t : List ℕ) (at m : ℕ) (a b : List ℕ) → m ≡ at + length (pack put2 s) → a ≡ sets d at (pack put2 s) → b ≡ sets a m (pack put2 t) → b ≡ sets d at (pack put2 (s ++ t))
+      join-two : (s t : List ℕ) (at m : ℕ) (a b : List ℕ) → m ≡ at + length (pack put2 s) → a ≡ sets d at (pack put2 s) → b ≡ sets a m (pack put2 t) →
+          b ≡ sets d at (pack put2 (s ++ t))
       join-two s t at m a b h f g = then d at (pack put2 s) (pack put2 t) m h f g ∙ ap (λ (q : List ℕ). sets d at q) (sym (pack-append put2 s t))
 
       regroup : (a b c d e : List ℕ) → (((a ++ b) ++ c) ++ d) ++ e ≡ a ++ (b ++ (c ++ (d ++ e)))
@@ -140,4 +141,16 @@ parts-long head classes c rows r edges e map n room p =
     let o = length-take-le (4 * r) rows (p .rows-there) in
     let l = length-take-le (3 * e) edges (p .edges-there) in
     let m = length-take-le n map (p .map-there) in
-    omega (arith, size-numbers (H ++ (C ++ (O ++ (E ++ M)))), length-append H (C ++ (O ++ (E ++ M))), length-append C (O ++ (E ++ M)), length-append O (E ++ M), length-append E M, h, k, o, l, m)
+    omega (
+      arith,
+      size-numbers (H ++ (C ++ (O ++ (E ++ M)))),
+      length-append H (C ++ (O ++ (E ++ M))),
+      length-append C (O ++ (E ++ M)),
+      length-append O (E ++ M),
+      length-append E M,
+      h,
+      k,
+      o,
+      l,
+      m,
+    )

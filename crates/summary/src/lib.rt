@@ -58,7 +58,8 @@ fn put_parts(
     n: usize,
 )
     requires { ⌜ Parts (now head) (now classes) c (now rows) r (now edges) e (now map) n (length (now out)) ⌝ }
-    ensures { λ _. ⌜ now (out .exit) ≡ sets (now (out .entry)) 0 (pack put2 (numbers (now (head .entry)) (now (classes .entry)) c (now (rows .entry)) r (now (edges .entry)) e (now (map .entry)) n)) ⌝ }
+    ensures { λ _. ⌜ now (out .exit) ≡ sets (now (out .entry)) 0
+        (pack put2 (numbers (now (head .entry)) (now (classes .entry)) c (now (rows .entry)) r (now (edges .entry)) e (now (map .entry)) n)) ⌝ }
 {
     wire::put_numbers(out, 0, head, 12);
     let mut at = 24;

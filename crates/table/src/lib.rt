@@ -38,7 +38,8 @@ pub fn put_not(table: &mut [bool], n: usize, j: usize)
 // "and, or, two operands": rows j + 1 and k, both or, where `any` says so, either.
 pub fn put_pair(table: &mut [bool], n: usize, j: usize, k: usize, any: bool)
     requires { ⌜ Room (now table) n k × (j + 1 ≤ k) ⌝ }
-    ensures { λ r. ⌜ Writes (now (table .entry)) (now (table .exit)) n j (λ x. paired any (row (now (table .entry)) (j + 1) x) (row (now (table .entry)) k x)) ⌝ }
+    ensures { λ r. ⌜ Writes (now (table .entry)) (now (table .exit)) n j
+        (λ x. paired any (row (now (table .entry)) (j + 1) x) (row (now (table .entry)) k x)) ⌝ }
 {
     let mut x = 0;
     while x < n {
@@ -105,7 +106,8 @@ fn count_link(
     counts: &mut [u16],
 )
     requires { ⌜ Room (now table) n j × OfLink (now reg) n k × Below (now counts) 2048 ⌝ }
-    ensures { λ r. ⌜ Adds (now (counts .entry)) (now (counts .exit)) (λ x. leads way label (row (now (table .entry)) j) x (linkOf (registerIn (now (reg .entry))) k)) ⌝ }
+    ensures { λ r. ⌜ Adds (now (counts .entry)) (now (counts .exit))
+        (λ x. leads way label (row (now (table .entry)) j) x (linkOf (registerIn (now (reg .entry))) k)) ⌝ }
 {
     if register::label(reg, n, k) != label {
         return;

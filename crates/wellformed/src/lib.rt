@@ -103,7 +103,8 @@ fn rows_fine(s: &[u8], keys: &mut [u64]) -> bool
 // Class links are in range and ascend, as the links of a register do.
 fn links_fine(s: &[u8]) -> bool
     requires { ⌜ Sized (now s) ⌝ }
-    ensures { λ r. ⌜ r ≡ each (linkIn (length (summaryIn (now (s .entry)) .classes))) (summaryIn (now (s .entry)) .links) && ascends linkKey (summaryIn (now (s .entry)) .links) ⌝ }
+    ensures { λ r. ⌜ r ≡ each (linkIn (length (summaryIn (now (s .entry)) .classes))) (summaryIn (now (s .entry)) .links) && ascends linkKey
+        (summaryIn (now (s .entry)) .links) ⌝ }
 {
     links::fine(
         s,

@@ -23,7 +23,8 @@ pub struct Rows {
 // is the last to be.
 pub fn put_lowest(s: &[u8], lowest: &mut [u16])
     requires { ⌜ (wellFormedFile (now s) ≡ true) × (length (now lowest) ≡ 1024) ⌝ }
-    ensures { λ _. ⌜ (length (now (lowest .exit)) ≡ 1024) × ((g : ℕ) → g < summaryIn (now (s .entry)) .groups → getD (now (lowest .exit)) g 0 ≡ lowestClass (summaryIn (now (s .entry))) g) ⌝ }
+    ensures { λ _. ⌜ (length (now (lowest .exit)) ≡ 1024)
+        × ((g : ℕ) → g < summaryIn (now (s .entry)) .groups → getD (now (lowest .exit)) g 0 ≡ lowestClass (summaryIn (now (s .entry))) g) ⌝ }
 {
     let c = reader::classes(s);
     let mut passed = 0;

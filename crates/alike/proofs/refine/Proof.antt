@@ -41,7 +41,8 @@ step-requires c κs =
     let room = s .pre .5 in (
       o,
       of-level (registerIn (a .reg .now)) (a .mu) (a .n) (o .items-are) (l .j) _ (few .0) (omega (arith, s .pre))
-          (copied (registerIn (a .reg .now)) (a .mu) (a .n) (o .items-are) (of-fine (a .reg .now) (a .n) (a .m) o) (l .j) _ _ _ _ _ _ _ _ (l .inv .7) _ (at-copy-classes .copy-classes .ensures)),
+          (copied (registerIn (a .reg .now)) (a .mu) (a .n) (o .items-are) (of-fine (a .reg .now) (a .n) (a .m) o) (l .j) _ _ _ _ _ _ _ _ (l .inv .7) _
+          (at-copy-classes .copy-classes .ensures)),
       omega (arith, s .pre),
       omega (arith, s .pre),
       record {
@@ -54,22 +55,35 @@ step-requires c κs =
 
 next-level-requires : tie.Need-next-level-requires Inv-loop μ-loop
 next-level-requires c κs =
-    let s = c .before .before .before .before .before .before .before .before .before .before .before .before .before .before .before .before .before .before .before .before .before .before .before .before .before .before .before .before .before .before .before .before .before .pre in
-    let l = c .before .before .before .before .before .before .before .before .before .before .before .before .before .before .before .before .before .before .before .before .before .before .before .before .before .loop in
-    let copy = c .before .before .before .before .before .before .before .before .before .before .before .before .before .before .before .before .before .before .before .before .before .copy-classes .ensures in
-    (copied-room _ (l .upper) (l .lower) _ (omega (arith, s, l .inv .2)) (omega (arith, s, l .inv .1)) copy, omega (arith, s .4, l .inv .2, c .before .before .before .before .before .before .before .before .before .before .before .upper), omega (arith, s .2, c .before .before .before .before .before .before .before .before .before .before .before .before .before .before .before .before .before .before .before .before .before .before .before .before .loop-test .taken))
+    let s =
+    c .before .before .before .before .before .before .before .before .before .before .before .before .before .before .before .before .before .before .before .before .before .before .before .before .before .before .before .before .before .before .before .before .before .pre in
+    let l =
+    c .before .before .before .before .before .before .before .before .before .before .before .before .before .before .before .before .before .before .before .before .before .before .before .before .before .loop in
+    let copy =
+    c .before .before .before .before .before .before .before .before .before .before .before .before .before .before .before .before .before .before .before .before .before .copy-classes .ensures in (
+      copied-room _ (l .upper) (l .lower) _ (omega (arith, s, l .inv .2)) (omega (arith, s, l .inv .1)) copy,
+      omega (arith, s .4, l .inv .2, c .before .before .before .before .before .before .before .before .before .before .before .upper),
+      omega (
+        arith,
+        s .2,
+        c .before .before .before .before .before .before .before .before .before .before .before .before .before .before .before .before .before .before .before .before .before .before .before .before .loop-test .taken,
+      ),
+    )
 
 loop-less : tie.Need-loop-less Inv-loop μ-loop
 loop-less c = let on = c .next-level .ensures in omega (arith, on .rises, on .ends)
 
 loop-again : tie.Need-loop-again Inv-loop μ-loop
 loop-again c =
-    let s = c .before .before .before .before .before .before .before .before .before .before .before .before .before .before .before .before .before .before .before .before .before .before .before .before .before .before .before .before .before .before .before .before .before .before in
+    let s =
+    c .before .before .before .before .before .before .before .before .before .before .before .before .before .before .before .before .before .before .before .before .before .before .before .before .before .before .before .before .before .before .before .before .before .before in
     let a = s .args in
-    let l = c .before .before .before .before .before .before .before .before .before .before .before .before .before .before .before .before .before .before .before .before .before .before .before .before .before .before .loop in
+    let l =
+    c .before .before .before .before .before .before .before .before .before .before .before .before .before .before .before .before .before .before .before .before .before .before .before .before .before .before .loop in
     let o = s .pre .0 in
     let fine = of-fine (a .reg .now) (a .n) (a .m) o in
-    let copy = c .before .before .before .before .before .before .before .before .before .before .before .before .before .before .before .before .before .before .before .before .before .before .copy-classes .ensures in
+    let copy =
+    c .before .before .before .before .before .before .before .before .before .before .before .before .before .before .before .before .before .before .before .before .before .before .copy-classes .ensures in
     let r = c .before .before .before .before .before .before .before .before .before .before .before .before .before .step .ensures in
     let on = c .next-level .ensures in (
       on .ends,

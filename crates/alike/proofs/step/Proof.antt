@@ -20,12 +20,14 @@ item-rows-requires c κs = search needs
 
 number-by-signature-requires : tie.Need-number-by-signature-requires
 number-by-signature-requires c κs =
-    let s = c .before .before .before .before .before .before .before .before .before .before .before .before .before .before .before .before .before .before .before .before .before .before .before .before .before in
+    let s =
+    c .before .before .before .before .before .before .before .before .before .before .before .before .before .before .before .before .before .before .before .before .before .before .before .before .before in
     let a = s .args in
     let few = limits (a .reg .now) (a .n) (a .m) (s .pre .0) in
     let r = c .before .before .before .before .before .before .before .before .before .before .before .before .before .item-rows .ensures in
     let room = s .pre .4 in (
-      rows-laid (registerIn (a .reg .now)) (a .mu) (take (a .n) (a .cs .now)) (a .n) _ _ _ _ (r .1) (r .0) (a .cs .now) (few .0) (s .pre .1 .long) (omega (arith, room .for-starts)),
+      rows-laid (registerIn (a .reg .now)) (a .mu) (take (a .n) (a .cs .now)) (a .n) _ _ _ _ (r .1) (r .0) (a .cs .now) (few .0) (s .pre .1 .long)
+          (omega (arith, room .for-starts)),
       omega (arith, room .for-keys),
       omega (arith, room .for-other),
       omega (arith, s .pre),

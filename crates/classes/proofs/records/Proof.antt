@@ -57,7 +57,11 @@ returns c =
     let s = c .before .before .before .before .before in
     let e : c .before .loop .x ≡ s .args .n = omega arith in
     sorted-all _ _ _ _ (s .pre) _ _ (c .before .loop .inv .1)
-    (λ k h. subst (λ (x : ℕ). Under (registerIn (s .args .reg .now)) (take (s .args .n) (s .args .groups .now)) (take (s .args .n) (s .args .classes .now)) (s .args .nu) (c .before .loop .out) x k) e (c .before .loop .inv .2 k h))
+    (λ k h.
+    subst
+    (λ (x : ℕ).
+    Under (registerIn (s .args .reg .now)) (take (s .args .n) (s .args .groups .now)) (take (s .args .n) (s .args .classes .now)) (s .args .nu)
+    (c .before .loop .out) x k) e (c .before .loop .inv .2 k h))
 
 pub records-spec : {M : Type 1} → statement M
 records-spec =

@@ -15,28 +15,42 @@ slice-aggregate-row-numbers : tie.Need-slice-aggregate-row-numbers
 slice-aggregate-row-numbers c = search needs
 
 row-numbers-requires : tie.Need-row-numbers-requires
-row-numbers-requires c κs = let s = c .before .before .before .before .before .before .before .before in ((_, _, _, given _ _ _ _ (s .args .nu) _ _ _ _ _ _ (s .args .i) (s .pre)), omega arith)
+row-numbers-requires c κs =
+    let s = c .before .before .before .before .before .before .before .before in
+    ((_, _, _, given _ _ _ _ (s .args .nu) _ _ _ _ _ _ (s .args .i) (s .pre)), omega arith)
 
 slice-aggregate-class-links : tie.Need-slice-aggregate-class-links
 slice-aggregate-class-links c = search needs
 
 class-links-requires : tie.Need-class-links-requires
 class-links-requires c κs =
-    let s = c .before .before .before .before .before .before .before .before .before .before .before in
-    (s .pre .register, map-there _ _ _ _ (s .args .nu) _ _ _ _ _ _ (s .args .i) (s .pre), omega (arith, s .pre .classes-are, few-classes _ _ _ _ (s .args .nu) _ _ _ _ _ _ (s .args .i) (s .pre)), omega arith)
+    let s = c .before .before .before .before .before .before .before .before .before .before .before in (
+      s .pre .register,
+      map-there _ _ _ _ (s .args .nu) _ _ _ _ _ _ (s .args .i) (s .pre),
+      omega (arith, s .pre .classes-are, few-classes _ _ _ _ (s .args .nu) _ _ _ _ _ _ (s .args .i) (s .pre)),
+      omega arith,
+    )
 
 cast-head : tie.Need-cast-head
-cast-head c = let s = c .before .before .before .before .before .before .before .before .before .before .before .before .before in omega (arith, few-classes _ _ _ _ (s .args .nu) _ _ _ _ _ _ (s .args .i) (s .pre))
+cast-head c =
+    let s = c .before .before .before .before .before .before .before .before .before .before .before .before .before in
+    omega (arith, few-classes _ _ _ _ (s .args .nu) _ _ _ _ _ _ (s .args .i) (s .pre))
 
 cast-t27 : tie.Need-cast-t27
-cast-t27 c = let s = c .before .before .before .before .before .before .before .before .before .before .before .before .before in omega (arith, few-groups _ _ _ _ (s .args .nu) _ _ _ _ _ _ (s .args .i) (s .pre))
+cast-t27 c =
+    let s = c .before .before .before .before .before .before .before .before .before .before .before .before .before in
+    omega (arith, few-groups _ _ _ _ (s .args .nu) _ _ _ _ _ _ (s .args .i) (s .pre))
 
 cast-t28 : tie.Need-cast-t28
 cast-t28 c =
     let cl = c .before in
     let rn = cl .before .before .before in
     let s = rn .before .before .before .before .before .before .before .before .before in
-    omega (arith, (rn .row-numbers .ensures _ _ _ (given _ _ _ _ (s .args .nu) _ _ _ _ _ _ (s .args .i) (s .pre))) .0, few-rows _ _ _ _ (s .args .nu) _ _ _ _ _ _ (s .args .i) (s .pre))
+    omega (
+      arith,
+      (rn .row-numbers .ensures _ _ _ (given _ _ _ _ (s .args .nu) _ _ _ _ _ _ (s .args .i) (s .pre))) .0,
+      few-rows _ _ _ _ (s .args .nu) _ _ _ _ _ _ (s .args .i) (s .pre),
+    )
 
 cast-t29 : tie.Need-cast-t29
 cast-t29 c =
@@ -46,14 +60,23 @@ cast-t29 c =
     omega (arith, cl .class-links .ensures .0, few-links _ _ _ _ (s .args .nu) _ _ _ _ _ _ (s .args .i) (s .pre))
 
 cast-head-2 : tie.Need-cast-head-2
-cast-head-2 c = let s = c .before .before .before .before .before .before .before .before .before .before .before .before .before in omega (arith, few-items _ _ _ _ (s .args .nu) _ _ _ _ _ _ (s .args .i) (s .pre))
+cast-head-2 c =
+    let s = c .before .before .before .before .before .before .before .before .before .before .before .before .before in
+    omega (arith, few-items _ _ _ _ (s .args .nu) _ _ _ _ _ _ (s .args .i) (s .pre))
 
 head-requires : tie.Need-head-requires
 head-requires c κs =
     let cl = c .before in
     let rn = cl .before .before .before in
-    let s = rn .before .before .before .before .before .before .before .before .before in
-    (omega (arith, few-classes _ _ _ _ (s .args .nu) _ _ _ _ _ _ (s .args .i) (s .pre)), omega (arith, (rn .row-numbers .ensures _ _ _ (given _ _ _ _ (s .args .nu) _ _ _ _ _ _ (s .args .i) (s .pre))) .0, few-rows _ _ _ _ (s .args .nu) _ _ _ _ _ _ (s .args .i) (s .pre)), omega (arith, cl .class-links .ensures .0, few-links _ _ _ _ (s .args .nu) _ _ _ _ _ _ (s .args .i) (s .pre)))
+    let s = rn .before .before .before .before .before .before .before .before .before in (
+      omega (arith, few-classes _ _ _ _ (s .args .nu) _ _ _ _ _ _ (s .args .i) (s .pre)),
+      omega (
+        arith,
+        (rn .row-numbers .ensures _ _ _ (given _ _ _ _ (s .args .nu) _ _ _ _ _ _ (s .args .i) (s .pre))) .0,
+        few-rows _ _ _ _ (s .args .nu) _ _ _ _ _ _ (s .args .i) (s .pre),
+      ),
+      omega (arith, cl .class-links .ensures .0, few-links _ _ _ _ (s .args .nu) _ _ _ _ _ _ (s .args .i) (s .pre)),
+    )
 
 slice-aggregate-file : tie.Need-slice-aggregate-file
 slice-aggregate-file c = search needs
@@ -101,7 +124,10 @@ returns c =
     let rows = (rn .row-numbers .ensures _ _ _ (given _ _ _ _ (s .args .nu) _ _ _ _ _ _ (s .args .i) (s .pre))) in
     let links = cl .class-links .ensures in
     let head = head-is _ _ _ _ (s .args .nu) _ _ _ _ _ _ (s .args .i) (s .pre) _ _ _ _ _ _ _ _ refl refl refl refl refl (rows .0) (links .0) (h .head .ensures) in
-    gives-this _ _ _ _ _ (ap (into _) (bytes-are _ _ _ _ (s .args .nu) _ _ _ _ _ _ (s .args .i) (s .pre) _ _ _ _ _ _ head (rec .records .ensures .numbered) (rows .1) (links .1))) (f .file .ensures)
+    gives-this _ _ _ _ _
+    (ap (into _)
+    (bytes-are _ _ _ _ (s .args .nu) _ _ _ _ _ _ (s .args .i) (s .pre) _ _ _ _ _ _ head (rec .records .ensures .numbered) (rows .1) (links .1)))
+    (f .file .ensures)
 
 pub put-summary-spec : {M : Type 1} → statement M
 put-summary-spec =

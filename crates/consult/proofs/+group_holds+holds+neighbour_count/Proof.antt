@@ -77,7 +77,18 @@ abbrev count-below : ℕ → In 5 count-kinds.ps
 count-below t = and 5 count-kinds.ps (falls 5 count-kinds.ps _<_ μ-count t) count.Pre
 
 abbrev group-given : ℕ → group-lts.Claims
-group-given t = (slot-of-reads.Asked, slot-of-reads.Learnt, recalled-reads.Asked, recalled-reads.Learnt, lowest-of-reads.Asked, lowest-of-reads.Learnt, holds-below t, holds.Post, remember-reads.Asked, remember-reads.Learnt)
+group-given t = (
+  slot-of-reads.Asked,
+  slot-of-reads.Learnt,
+  recalled-reads.Asked,
+  recalled-reads.Learnt,
+  lowest-of-reads.Asked,
+  lowest-of-reads.Learnt,
+  holds-below t,
+  holds.Post,
+  remember-reads.Asked,
+  remember-reads.Learnt,
+)
 
 abbrev holds-given : ℕ → holds-lts.Claims
 holds-given t = (
@@ -118,13 +129,22 @@ group-same-length : (t : ℕ) → group-lts.Need-same-length (group-given t) (gr
 group-same-length t c = search needs
 
 group-returns : (t : ℕ) → group-lts.Need-returns (group-given t) (group-at t) group.Post
-group-returns t c = let s = c .before .before .before .before .before .before .before .before .before in (recalled-holds _ _ _ (s .pre .1 .1) (s .args .at) (s .args .group .0) (group-few _ _ _ (s .pre .1 .0) _ (s .pre .1 .2) .0) _ (c .before .recalled .ensures ∙ ap (λ (j : ℕ). getD (s .args .known .now) j 0) (c .before .before .before .slot-of .ensures)) (c .if1 .taken), s .pre .1 .1)
+group-returns t c =
+    let s = c .before .before .before .before .before .before .before .before .before in (
+      recalled-holds _ _ _ (s .pre .1 .1) (s .args .at) (s .args .group .0) (group-few _ _ _ (s .pre .1 .0) _ (s .pre .1 .2) .0) _
+          (c .before .recalled .ensures ∙ ap (λ (j : ℕ). getD (s .args .known .now) j 0) (c .before .before .before .slot-of .ensures)) (c .if1 .taken),
+      s .pre .1 .1,
+    )
 
 group-lowest-of-requires : (t : ℕ) → group-lts.Need-lowest-of-requires (group-given t) (group-at t) group.Post
-group-lowest-of-requires t c κs = group-few _ _ _ (c .before .before .before .before .before .before .before .before .before .before .pre .1 .0) _ (c .before .before .before .before .before .before .before .before .before .before .pre .1 .2) .1
+group-lowest-of-requires t c κs =
+    group-few _ _ _ (c .before .before .before .before .before .before .before .before .before .before .pre .1 .0) _
+    (c .before .before .before .before .before .before .before .before .before .before .pre .1 .2) .1
 
 group-holds-requires : (t : ℕ) → group-lts.Need-holds-requires (group-given t) (group-at t) group.Post
-group-holds-requires t c κs = let s = c .before .before .before .before .before .before .before .before .before .before .before in (omega (arith, s .pre .0), (s .pre .1 .0, s .pre .1 .1, lowest-asked _ _ _ (s .pre .1 .0) _ (s .pre .1 .2) _ (c .lowest-of .ensures) .1))
+group-holds-requires t c κs =
+    let s = c .before .before .before .before .before .before .before .before .before .before .before in
+    (omega (arith, s .pre .0), (s .pre .1 .0, s .pre .1 .1, lowest-asked _ _ _ (s .pre .1 .0) _ (s .pre .1 .2) _ (c .lowest-of .ensures) .1))
 
 group-enum-known-yes : (t : ℕ) → group-lts.Need-enum-known-yes (group-given t) (group-at t) group.Post
 group-enum-known-yes t c = search needs
@@ -151,13 +171,22 @@ group-same-length-3 t c = search needs
 
 group-returns-3 : (t : ℕ) → group-lts.Need-returns-3 (group-given t) (group-at t) group.Post
 group-returns-3 t c =
-    let s = c .before .before .before .before .before .before .before .before .before .before .before .before .before .before .before .before .before .before .before .before .before in
+    let s =
+    c .before .before .before .before .before .before .before .before .before .before .before .before .before .before .before .before .before .before .before .before .before in
     let h = c .before .before .before .before .before .before .before .before .before .holds .ensures in
     let low = lowest-asked _ _ _ (s .pre .1 .0) _ (s .pre .1 .2) _ (c .before .before .before .before .before .before .before .before .before .before .lowest-of .ensures) .0 in
-    let said = subst (λ (x : ℕ). Holds (s .args .q .now) (s .args .at) (summaryIn (s .args .s .now)) x (c .before .before .before .before .before .before .before .before .before .holds .result)) low (h .0) in
+    let said =
+    subst
+    (λ (x : ℕ).
+    Holds (s .args .q .now) (s .args .at) (summaryIn (s .args .s .now)) x
+    (c .before .before .before .before .before .before .before .before .before .holds .result)) low (h .0) in
     let few = group-few _ _ _ (s .pre .1 .0) _ (s .pre .1 .2) .0 in
-    rw (c .before .before .remember .ensures, c .before .before .before .before .before .before .before .before .before .before .before .before .before .before .before .slot-of .ensures)
-    (holds-kept _ _ _ (h .1) (s .args .at) (s .args .group .0) few _ (c .before .before .before .before .before .yes .given .0 .0) (c .before .before .before .before .before .yes .given .1) said)
+    rw (
+      c .before .before .remember .ensures,
+      c .before .before .before .before .before .before .before .before .before .before .before .before .before .before .before .slot-of .ensures,
+    )
+    (holds-kept _ _ _ (h .1) (s .args .at) (s .args .group .0) few _ (c .before .before .before .before .before .yes .given .0 .0)
+    (c .before .before .before .before .before .yes .given .1) said)
 
 -- ---- holds
 
@@ -184,7 +213,10 @@ holds-enum-told : (t : ℕ) → holds-lts.Need-enum-told (holds-given t) (holds-
 holds-enum-told t c = search needs
 
 holds-returns : (t : ℕ) → holds-lts.Need-returns (holds-given t) (holds-at t) holds.Post
-holds-returns t c = (holds-none _ _ _ _ _ _ (c .before .before .read .ensures) (c .enum-told .given .1), c .before .before .before .before .before .before .before .before .pre .1 .1)
+holds-returns t c = (
+  holds-none _ _ _ _ _ _ (c .before .before .read .ensures) (c .enum-told .given .1),
+  c .before .before .before .before .before .before .before .before .pre .1 .1,
+)
 
 holds-enum-told-2 : (t : ℕ) → holds-lts.Need-enum-told-2 (holds-given t) (holds-at t) holds.Post
 holds-enum-told-2 t c = search needs
@@ -193,7 +225,9 @@ holds-enum-known-kind-2 : (t : ℕ) → holds-lts.Need-enum-known-kind-2 (holds-
 holds-enum-known-kind-2 t c = search needs
 
 holds-marks-requires : (t : ℕ) → holds-lts.Need-marks-requires (holds-given t) (holds-at t) holds.Post
-holds-marks-requires t c κs = let s = c .before .before .before .before .before .before .before .before .before .before .before .before in record { exact-is = well-file _ (s .pre .1 .0 .well) .0; class-is = s .pre .1 .2 }
+holds-marks-requires t c κs =
+    let s = c .before .before .before .before .before .before .before .before .before .before .before .before in
+    record { exact-is = well-file _ (s .pre .1 .0 .well) .0; class-is = s .pre .1 .2 }
 
 holds-shows-requires : (t : ℕ) → holds-lts.Need-shows-requires (holds-given t) (holds-at t) holds.Post
 holds-shows-requires t c κs = let e = reads-as t (c .before .before .before .before) ∙ ap some (c .before .before .kind2 .given .1) in rw (literal-back _ _ e) (literal-read _ _ e)
@@ -205,7 +239,9 @@ holds-add-holds : (t : ℕ) → holds-lts.Need-add-holds (holds-given t) (holds-
 holds-add-holds t c = omega (arith, inside t (c .before .before))
 
 holds-holds-requires : (t : ℕ) → holds-lts.Need-holds-requires (holds-given t) (holds-at t) holds.Post
-holds-holds-requires t c κs = let s = c .before .before .before .before .before .before .before .before .before .before .before .before in (omega (arith, inside t (c .before .before .before), s .pre .0), s .pre .1)
+holds-holds-requires t c κs =
+    let s = c .before .before .before .before .before .before .before .before .before .before .before .before in
+    (omega (arith, inside t (c .before .before .before), s .pre .0), s .pre .1)
 
 holds-turned-requires : (t : ℕ) → holds-lts.Need-turned-requires (holds-given t) (holds-at t) holds.Post
 holds-turned-requires t c κs = search needs
@@ -214,7 +250,9 @@ holds-add-holds-2 : (t : ℕ) → holds-lts.Need-add-holds-2 (holds-given t) (ho
 holds-add-holds-2 t c = omega (arith, inside t (c .before))
 
 holds-holds-requires-2 : (t : ℕ) → holds-lts.Need-holds-requires-2 (holds-given t) (holds-at t) holds.Post
-holds-holds-requires-2 t c κs = let s = c .before .before .before .before .before .before .before .before .before .before .before in (omega (arith, inside t (c .before .before), s .pre .0), s .pre .1)
+holds-holds-requires-2 t c κs =
+    let s = c .before .before .before .before .before .before .before .before .before .before .before in
+    (omega (arith, inside t (c .before .before), s .pre .0), s .pre .1)
 
 holds-decides-requires : (t : ℕ) → holds-lts.Need-decides-requires (holds-given t) (holds-at t) holds.Post
 holds-decides-requires t c κs = search needs
@@ -223,7 +261,12 @@ holds-same-length : (t : ℕ) → holds-lts.Need-same-length (holds-given t) (ho
 holds-same-length t c = search needs
 
 holds-returns-2 : (t : ℕ) → holds-lts.Need-returns-2 (holds-given t) (holds-at t) holds.Post
-holds-returns-2 t c = (holds-first _ _ _ _ _ (two-of _ (c .before .before .before .before .before .before .match2 .keys4)) (reads-as t (c .before .before .before .before .before .before .before)) _ (c .before .before .before .before .holds2 .ensures .0) (sym (c .before .decides .ensures) ∙ c .if1 .taken), c .before .before .before .before .holds2 .ensures .1)
+holds-returns-2 t c = (
+  holds-first _ _ _ _ _ (two-of _ (c .before .before .before .before .before .before .match2 .keys4))
+      (reads-as t (c .before .before .before .before .before .before .before)) _ (c .before .before .before .before .holds2 .ensures .0)
+      (sym (c .before .decides .ensures) ∙ c .if1 .taken),
+  c .before .before .before .before .holds2 .ensures .1,
+)
 
 holds-add-span : (t : ℕ) → holds-lts.Need-add-span (holds-given t) (holds-at t) holds.Post
 holds-add-span t c = omega (arith, inside t (c .before .before .before .before .before .before .before))
@@ -241,46 +284,85 @@ holds-same-length-2 : (t : ℕ) → holds-lts.Need-same-length-2 (holds-given t)
 holds-same-length-2 t c = search needs
 
 holds-returns-3 : (t : ℕ) → holds-lts.Need-returns-3 (holds-given t) (holds-at t) holds.Post
-holds-returns-3 t c = (holds-unspanned _ _ _ _ _ (two-of _ (c .before .before .before .before .before .before .before .before .before .match2 .keys4)) (reads-as t (c .before .before .before .before .before .before .before .before .before .before)) _ (c .before .before .before .before .before .before .before .holds2 .ensures .0) _ (c .before .before .span .ensures) _ _ (c .enum-told4 .given .1), c .before .before .before .before .before .before .before .holds2 .ensures .1)
+holds-returns-3 t c = (
+  holds-unspanned _ _ _ _ _ (two-of _ (c .before .before .before .before .before .before .before .before .before .match2 .keys4))
+      (reads-as t (c .before .before .before .before .before .before .before .before .before .before)) _
+      (c .before .before .before .before .before .before .before .holds2 .ensures .0) _ (c .before .before .span .ensures) _ _
+      (c .enum-told4 .given .1),
+  c .before .before .before .before .before .before .before .holds2 .ensures .1,
+)
 
 holds-holds-requires-3 : (t : ℕ) → holds-lts.Need-holds-requires-3 (holds-given t) (holds-at t) holds.Post
-holds-holds-requires-3 t c κs = let s = c .before .before .before .before .before .before .before .before .before .before .before .before .before .before .before .before .before .before .before .before .before in (omega (arith, inside t (c .before .before .before .before .before .before .before .before .before .before .before .before), s .pre .0, spans-on _ _ _ (c .before .before .before .before .span .ensures) _ _ _ (c .before .before .next .given .1)), (s .pre .1 .0, c .before .before .before .before .before .before .before .before .before .holds2 .ensures .1, s .pre .1 .2))
+holds-holds-requires-3 t c κs =
+    let s =
+    c .before .before .before .before .before .before .before .before .before .before .before .before .before .before .before .before .before .before .before .before .before in (
+      omega (
+        arith,
+        inside t (c .before .before .before .before .before .before .before .before .before .before .before .before),
+        s .pre .0,
+        spans-on _ _ _ (c .before .before .before .before .span .ensures) _ _ _ (c .before .before .next .given .1),
+      ),
+      (s .pre .1 .0, c .before .before .before .before .before .before .before .before .before .holds2 .ensures .1, s .pre .1 .2),
+    )
 
 holds-enum-known-kind-3 : (t : ℕ) → holds-lts.Need-enum-known-kind-3 (holds-given t) (holds-at t) holds.Post
 holds-enum-known-kind-3 t c = search needs
 
 holds-rows-of-requires : (t : ℕ) → holds-lts.Need-rows-of-requires (holds-given t) (holds-at t) holds.Post
-holds-rows-of-requires t c κs = let s = c .before .before .before .before .before .before .before .before .before .before .before .before in let w = s .pre .1 .0 in (w .well, w .keys-long, w .kept, least-read _ _ (reads-as t (c .before .before .before) ∙ ap some (c .before .kind3 .given .1)) .0)
+holds-rows-of-requires t c κs =
+    let s = c .before .before .before .before .before .before .before .before .before .before .before .before in
+    let w = s .pre .1 .0 in
+    (w .well, w .keys-long, w .kept, least-read _ _ (reads-as t (c .before .before .before) ∙ ap some (c .before .kind3 .given .1)) .0)
 
 holds-add-neighbour-count : (t : ℕ) → holds-lts.Need-add-neighbour-count (holds-given t) (holds-at t) holds.Post
 holds-add-neighbour-count t c = omega (arith, inside t (c .before .before .before .before))
 
 holds-neighbour-count-requires : (t : ℕ) → holds-lts.Need-neighbour-count-requires (holds-given t) (holds-at t) holds.Post
-holds-neighbour-count-requires t c κs = let s = c .before .before .before .before .before .before .before .before .before .before .before .before .before .before in let own = c .before .rows-of .ensures in (omega (arith, inside t (c .before .before .before .before .before), s .pre .0), (s .pre .1 .0, s .pre .1 .1, own .rises, own .ends))
+holds-neighbour-count-requires t c κs =
+    let s = c .before .before .before .before .before .before .before .before .before .before .before .before .before .before in
+    let own = c .before .rows-of .ensures in
+    (omega (arith, inside t (c .before .before .before .before .before), s .pre .0), (s .pre .1 .0, s .pre .1 .1, own .rises, own .ends))
 
 holds-reached-requires : (t : ℕ) → holds-lts.Need-reached-requires (holds-given t) (holds-at t) holds.Post
 holds-reached-requires t c κs = search needs
 
 holds-returns-4 : (t : ℕ) → holds-lts.Need-returns-4 (holds-given t) (holds-at t) holds.Post
-holds-returns-4 t c = (holds-true _ _ _ _ (reads-as t (c .before .before) ∙ ap some (c .enum-told2 .given .1)), c .before .before .before .before .before .before .before .before .before .before .before .pre .1 .1)
+holds-returns-4 t c = (
+  holds-true _ _ _ _ (reads-as t (c .before .before) ∙ ap some (c .enum-told2 .given .1)),
+  c .before .before .before .before .before .before .before .before .before .before .before .pre .1 .1,
+)
 
 holds-returns-5 : (t : ℕ) → holds-lts.Need-returns-5 (holds-given t) (holds-at t) holds.Post
 holds-returns-5 t c =
-    let e = reads-as t (c .before .before .before .before .before) ∙ ap some (c .before .before .before .kind2 .given .1) in
-    (holds-literal _ _ _ _ _ _ _ (e ∙ ap (λ (z : ℤ). some (Literal z)) (sym (literal-back _ _ e))) (c .before .marks .ensures) (c .shows .ensures), c .before .before .before .before .before .before .before .before .before .before .before .before .before .before .pre .1 .1)
+    let e = reads-as t (c .before .before .before .before .before) ∙ ap some (c .before .before .before .kind2 .given .1) in (
+      holds-literal _ _ _ _ _ _ _ (e ∙ ap (λ (z : ℤ). some (Literal z)) (sym (literal-back _ _ e))) (c .before .marks .ensures) (c .shows .ensures),
+      c .before .before .before .before .before .before .before .before .before .before .before .before .before .before .pre .1 .1,
+    )
 
 holds-same-length-3 : (t : ℕ) → holds-lts.Need-same-length-3 (holds-given t) (holds-at t) holds.Post
 holds-same-length-3 t c = search needs
 
 holds-returns-6 : (t : ℕ) → holds-lts.Need-returns-6 (holds-given t) (holds-at t) holds.Post
-holds-returns-6 t c = (rw (c .turned .ensures) (holds-not _ _ _ _ _ (reads-as t (c .before .before .before .before .before .before .before) ∙ ap some (c .before .before .before .before .before .enum-told3 .given .1)) (c .before .before .before .holds .ensures .0)), c .before .before .before .holds .ensures .1)
+holds-returns-6 t c = (
+  rw (c .turned .ensures)
+      (holds-not _ _ _ _ _
+      (reads-as t (c .before .before .before .before .before .before .before)
+      ∙ ap some (c .before .before .before .before .before .enum-told3 .given .1)) (c .before .before .before .holds .ensures .0)),
+  c .before .before .before .holds .ensures .1,
+)
 
 holds-same-length-4 : (t : ℕ) → holds-lts.Need-same-length-4 (holds-given t) (holds-at t) holds.Post
 holds-same-length-4 t c = search needs
 
 holds-returns-7 : (t : ℕ) → holds-lts.Need-returns-7 (holds-given t) (holds-at t) holds.Post
 holds-returns-7 t c = (
-  holds-second _ _ _ _ _ (two-of _ (c .before .before .before .before .before .before .before .before .before .before .before .before .before .before .match2 .keys4)) (reads-as t (c .before .before .before .before .before .before .before .before .before .before .before .before .before .before .before)) _ (c .before .before .before .before .before .before .before .before .before .before .before .before .holds2 .ensures .0) _ (c .before .before .before .before .before .before .before .span .ensures) _ _ _ _ (sym (c .before .before .before .before .before .before .before .before .before .decides .ensures) ∙ c .before .before .before .before .before .before .before .before .if1 .left) (c .before .before .before .before .before .next .given .1)
+  holds-second _ _ _ _ _
+      (two-of _ (c .before .before .before .before .before .before .before .before .before .before .before .before .before .before .match2 .keys4))
+      (reads-as t (c .before .before .before .before .before .before .before .before .before .before .before .before .before .before .before)) _
+      (c .before .before .before .before .before .before .before .before .before .before .before .before .holds2 .ensures .0) _
+      (c .before .before .before .before .before .before .before .span .ensures) _ _ _ _
+      (sym (c .before .before .before .before .before .before .before .before .before .decides .ensures)
+      ∙ c .before .before .before .before .before .before .before .before .if1 .left) (c .before .before .before .before .before .next .given .1)
       (c .before .before .holds3 .ensures .0),
   c .before .before .holds3 .ensures .1,
 )
@@ -289,13 +371,22 @@ holds-same-length-5 : (t : ℕ) → holds-lts.Need-same-length-5 (holds-given t)
 holds-same-length-5 t c = search needs
 
 holds-returns-8 : (t : ℕ) → holds-lts.Need-returns-8 (holds-given t) (holds-at t) holds.Post
-holds-returns-8 t c = (rw (c .reached .ensures) (holds-least _ _ _ _ _ _ _ _ _ _ (reads-as t (c .before .before .before .before .before .before .before .before .before) ∙ ap some (c .before .before .before .before .before .before .before .kind3 .given .1)) (c .before .before .before .before .before .rows-of .ensures) (c .before .before .before .neighbour-count .ensures .0)), c .before .before .before .neighbour-count .ensures .1)
+holds-returns-8 t c = (
+  rw (c .reached .ensures)
+      (holds-least _ _ _ _ _ _ _ _ _ _
+      (reads-as t (c .before .before .before .before .before .before .before .before .before)
+      ∙ ap some (c .before .before .before .before .before .before .before .kind3 .given .1))
+      (c .before .before .before .before .before .rows-of .ensures) (c .before .before .before .neighbour-count .ensures .0)),
+  c .before .before .before .neighbour-count .ensures .1,
+)
 
 -- ---- neighbour_count
 
 -- the rows so far are summed
 abbrev Inv-loop : count-lts.InvT-loop
-Inv-loop q at s keys lowest known₀ low high sum₀ row₀ known sum row = (low ≤ row) × (row ≤ high) × (sum ≤ 8 * (row - low)) × Summed q at (summaryIn s) low row sum × Remembers q (summaryIn s) known × (length known ≡ length known₀)
+Inv-loop q at s keys lowest known₀ low high sum₀ row₀ known sum row =
+    (low ≤ row) × (row ≤ high) × (sum ≤ 8 * (row - low)) × Summed q at (summaryIn s) low row sum × Remembers q (summaryIn s) known ×
+    (length known ≡ length known₀)
 
 abbrev μ-loop : count-lts.MeasureT-loop
 μ-loop q at s keys lowest known₀ low high sum₀ row₀ known sum row = high - row
@@ -319,7 +410,15 @@ count-row-group-requires : (t : ℕ) → count-lts.Need-row-group-requires (coun
 count-row-group-requires t c κs = row-there t c
 
 count-group-holds-requires : (t : ℕ) → count-lts.Need-group-holds-requires (count-given t) (count-at t) count.Post Inv-loop μ-loop
-count-group-holds-requires t c κs = let s = c .before .before .before .before .before .before .before .before .before in (omega (arith, s .pre .0), (s .pre .1 .0, c .before .before .before .loop .inv .4, row-grouped _ _ _ (s .pre .1 .0) _ (row-there t (c .before .before) .row-is) _ (c .before .row-group .ensures)))
+count-group-holds-requires t c κs =
+    let s = c .before .before .before .before .before .before .before .before .before in (
+      omega (arith, s .pre .0),
+      (
+        s .pre .1 .0,
+        c .before .before .before .loop .inv .4,
+        row-grouped _ _ _ (s .pre .1 .0) _ (row-there t (c .before .before) .row-is) _ (c .before .row-group .ensures),
+      ),
+    )
 
 count-enum-known-yes : (t : ℕ) → count-lts.Need-enum-known-yes (count-given t) (count-at t) count.Post Inv-loop μ-loop
 count-enum-known-yes t c = search needs
@@ -331,7 +430,15 @@ count-same-length : (t : ℕ) → count-lts.Need-same-length (count-given t) (co
 count-same-length t c = search needs
 
 count-returns : (t : ℕ) → count-lts.Need-returns (count-given t) (count-at t) count.Post Inv-loop μ-loop
-count-returns t c = (counts-unasked _ _ _ _ _ _ (ap (lowestClass (summaryIn (c .before .before .before .before .before .before .before .before .before .before .before .before .before .before .args .s .now))) (c .before .before .before .before .before .before .row-group .ensures)) _ (c .before .before .before .before .group-holds .ensures .0) _ _ _ (c .enum-told .given .1), c .before .before .before .before .group-holds .ensures .1)
+count-returns t c = (
+  counts-unasked _ _ _ _ _ _
+      (ap
+      (lowestClass
+      (summaryIn (c .before .before .before .before .before .before .before .before .before .before .before .before .before .before .args .s .now)))
+      (c .before .before .before .before .before .before .row-group .ensures)) _ (c .before .before .before .before .group-holds .ensures .0) _ _ _
+      (c .enum-told .given .1),
+  c .before .before .before .before .group-holds .ensures .1,
+)
 
 count-row-count-requires : (t : ℕ) → count-lts.Need-row-count-requires (count-given t) (count-at t) count.Post Inv-loop μ-loop
 count-row-count-requires t c κs = row-there t (c .before .before .before .before .before .before .before .before)
@@ -340,7 +447,8 @@ count-added-requires : (t : ℕ) → count-lts.Need-added-requires (count-given 
 count-added-requires t c κs =
     let l = c .before .before .before .before .before .before .before .before .before .before .loop .inv in
     let s = c .before .before .before .before .before .before .before .before .before .before .before .before .before .before .before .before in
-    sum-most _ _ _ (s .pre .1 .0) _ (row-there t (c .before .before .before .before .before .before .before .before .before) .row-is) _ _ _ _ (l .0) (c .before .before .before .before .before .before .before .before .before .loop-test .taken) (s .pre .1 .3) (l .2) (c .row-count .ensures)
+    sum-most _ _ _ (s .pre .1 .0) _ (row-there t (c .before .before .before .before .before .before .before .before .before) .row-is) _ _ _ _ (l .0)
+    (c .before .before .before .before .before .before .before .before .before .loop-test .taken) (s .pre .1 .3) (l .2) (c .row-count .ensures)
 
 count-add-row : (t : ℕ) → count-lts.Need-add-row (count-given t) (count-at t) count.Post Inv-loop μ-loop
 count-add-row t c = omega arith
@@ -357,8 +465,16 @@ count-loop-again t c =
     let h = c .before .before .before .before .before .before .before .group-holds .ensures in (
       omega (arith, l .0),
       omega (arith, c .before .before .before .before .before .before .before .before .before .before .loop-test .taken),
-      rw (c .added .ensures) (added-most _ _ _ (s .pre .1 .0) _ (row-there t (c .before .before .before .before .before .before .before .before .before .before) .row-is) _ _ _ (y .0 .0) (l .0) (l .2) m),
-      rw (c .added .ensures) (one-summed _ _ _ _ _ _ (ap (lowestClass (summaryIn (c .before .before .before .before .before .before .before .before .before .before .before .before .before .before .before .before .before .args .s .now))) (c .before .before .before .before .before .before .before .before .before .row-group .ensures)) _ (h .0) _ _ (y .0 .0) (l .0) (y .1) m (l .3)),
+      rw (c .added .ensures)
+          (added-most _ _ _ (s .pre .1 .0) _ (row-there t (c .before .before .before .before .before .before .before .before .before .before) .row-is) _ _
+          _ (y .0 .0) (l .0) (l .2) m),
+      rw (c .added .ensures)
+          (one-summed _ _ _ _ _ _
+          (ap
+          (lowestClass
+          (summaryIn
+          (c .before .before .before .before .before .before .before .before .before .before .before .before .before .before .before .before .before .args .s .now)))
+          (c .before .before .before .before .before .before .before .before .before .row-group .ensures)) _ (h .0) _ _ (y .0 .0) (l .0) (y .1) m (l .3)),
       h .1,
       search needs,
     )

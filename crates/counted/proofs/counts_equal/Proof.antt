@@ -17,7 +17,9 @@ use Rattle.counted.proofs.counts_equal.Statement.{statement}
 use Rattle.counted.proofs.counts_equal.Tie as tie
 
 abbrev Inv-loop : tie.InvT-loop
-Inv-loop n s nu counts c k₀ k = (k ≤ c) × ((i : ℕ) → i < k → eqb (classOf (summaryIn s) i .count) (cap (summaryIn s .classCap) (tally (λ x. eqb (classAt (summaryIn s) x) i) n)) ≡ true)
+Inv-loop n s nu counts c k₀ k =
+    (k ≤ c) ×
+    ((i : ℕ) → i < k → eqb (classOf (summaryIn s) i .count) (cap (summaryIn s .classCap) (tally (λ x. eqb (classAt (summaryIn s) x) i) n)) ≡ true)
 
 abbrev μ-loop : tie.MeasureT-loop
 μ-loop n s nu counts c k₀ k = c - k
@@ -52,7 +54,9 @@ returns : tie.Need-returns Inv-loop μ-loop
 returns c =
     let l = c .before .before .before .loop in
     let classes = c .before .before .before .before .classes .ensures in
-    let counted = c .before .before .before .before .before .before .put-counts .ensures (l .k) (omega (arith, classes, c .before .before .before .before .before .before .before .before .before .pre .0 .few-classes)) in
+    let counted =
+    c .before .before .before .before .before .before .put-counts .ensures (l .k)
+    (omega (arith, classes, c .before .before .before .before .before .before .before .before .before .pre .0 .few-classes)) in
     sym (all-no _ _ (l .k) (omega (arith, classes)) (told-no _ _ _ _ (c .before .count .ensures) counted (c .if1 .taken)))
 
 add-k : tie.Need-add-k Inv-loop μ-loop
@@ -65,7 +69,9 @@ loop-again : tie.Need-loop-again Inv-loop μ-loop
 loop-again c =
     let l = c .before .before .before .loop in
     let classes = c .before .before .before .before .classes .ensures in
-    let counted = c .before .before .before .before .before .before .put-counts .ensures (l .k) (omega (arith, classes, c .before .before .before .before .before .before .before .before .before .pre .0 .few-classes)) in
+    let counted =
+    c .before .before .before .before .before .before .put-counts .ensures (l .k)
+    (omega (arith, classes, c .before .before .before .before .before .before .before .before .before .pre .0 .few-classes)) in
     (omega arith, below-more _ _ (l .inv .1) (told-yes _ _ _ _ (c .before .count .ensures) counted (c .if1 .left)))
 
 returns-2 : tie.Need-returns-2 Inv-loop μ-loop

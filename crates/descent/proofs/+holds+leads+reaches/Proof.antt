@@ -76,13 +76,58 @@ abbrev reaches-below : ℕ → In 6 reaches-kinds.ps
 reaches-below t = and 6 reaches-kinds.ps (falls 6 reaches-kinds.ps _<_ μ-reaches t) reaches.Pre
 
 abbrev holds-given : ℕ → holds-lts.Claims
-holds-given t = (read-reads.Asked, read-reads.Learnt, marks-reads.Asked, marks-reads.Learnt, shows-reads.Asked, shows-reads.Learnt, holds-below t, holds.Post, turned-reads.Asked, turned-reads.Learnt, decides-reads.Asked, decides-reads.Learnt, span-reads.Asked, span-reads.Learnt, reaches-below t, reaches.Post)
+holds-given t = (
+  read-reads.Asked,
+  read-reads.Learnt,
+  marks-reads.Asked,
+  marks-reads.Learnt,
+  shows-reads.Asked,
+  shows-reads.Learnt,
+  holds-below t,
+  holds.Post,
+  turned-reads.Asked,
+  turned-reads.Learnt,
+  decides-reads.Asked,
+  decides-reads.Learnt,
+  span-reads.Asked,
+  span-reads.Learnt,
+  reaches-below t,
+  reaches.Post,
+)
 
 abbrev leads-given : ℕ → leads-lts.Claims
-leads-given t = (label-reads.Asked, label-reads.Learnt, far-reads.Asked, far-reads.Learnt, slot-of-reads.Asked, slot-of-reads.Learnt, recalled-reads.Asked, recalled-reads.Learnt, spent-reads.Asked, spent-reads.Learnt, tired-reads.Asked, tired-reads.Learnt, holds-below t, holds.Post, remember-reads.Asked, remember-reads.Learnt)
+leads-given t = (
+  label-reads.Asked,
+  label-reads.Learnt,
+  far-reads.Asked,
+  far-reads.Learnt,
+  slot-of-reads.Asked,
+  slot-of-reads.Learnt,
+  recalled-reads.Asked,
+  recalled-reads.Learnt,
+  spent-reads.Asked,
+  spent-reads.Learnt,
+  tired-reads.Asked,
+  tired-reads.Learnt,
+  holds-below t,
+  holds.Post,
+  remember-reads.Asked,
+  remember-reads.Learnt,
+)
 
 abbrev reaches-given : ℕ → reaches-lts.Claims
-reaches-given t = (last-reads.Asked, last-reads.Learnt, leads-below t, leads.Post, tired-reads.Asked, tired-reads.Learnt, added-reads.Asked, added-reads.Learnt, before-reads.Asked, before-reads.Learnt)
+reaches-given t = (
+  last-reads.Asked,
+  last-reads.Learnt,
+  leads-below t,
+  leads.Post,
+  tired-reads.Asked,
+  tired-reads.Learnt,
+  added-reads.Asked,
+  added-reads.Learnt,
+  before-reads.Asked,
+  before-reads.Learnt,
+)
 
 -- ---- holds
 
@@ -118,7 +163,9 @@ holds-enum-known-kind-2 : (t : ℕ) → holds-lts.Need-enum-known-kind-2 (holds-
 holds-enum-known-kind-2 t c = search needs
 
 holds-marks-requires : (t : ℕ) → holds-lts.Need-marks-requires (holds-given t) (holds-at t) holds.Post
-holds-marks-requires t c κs = let s = c .before .before .before .before .before .before .before .before .before .before .before .before .before in (s .pre .1 .0 .register .fine, omega (arith, s .pre .1 .2, s .pre .1 .0 .register .items-are))
+holds-marks-requires t c κs =
+    let s = c .before .before .before .before .before .before .before .before .before .before .before .before .before in
+    (s .pre .1 .0 .register .fine, omega (arith, s .pre .1 .2, s .pre .1 .0 .register .items-are))
 
 holds-shows-requires : (t : ℕ) → holds-lts.Need-shows-requires (holds-given t) (holds-at t) holds.Post
 holds-shows-requires t c κs = let e = reads-as t (c .before .before .before .before) ∙ ap some (c .before .before .kind2 .given .1) in rw (literal-back _ _ e) (literal-read _ _ e)
@@ -130,7 +177,9 @@ holds-add-holds : (t : ℕ) → holds-lts.Need-add-holds (holds-given t) (holds-
 holds-add-holds t c = omega (arith, inside t (c .before .before))
 
 holds-holds-requires : (t : ℕ) → holds-lts.Need-holds-requires (holds-given t) (holds-at t) holds.Post
-holds-holds-requires t c κs = let s = c .before .before .before .before .before .before .before .before .before .before .before .before .before .before in (omega (arith, inside t (c .before .before .before .before), s .pre .0), s .pre .1)
+holds-holds-requires t c κs =
+    let s = c .before .before .before .before .before .before .before .before .before .before .before .before .before .before in
+    (omega (arith, inside t (c .before .before .before .before), s .pre .0), s .pre .1)
 
 holds-turned-requires : (t : ℕ) → holds-lts.Need-turned-requires (holds-given t) (holds-at t) holds.Post
 holds-turned-requires t c κs = search needs
@@ -139,7 +188,9 @@ holds-add-holds-2 : (t : ℕ) → holds-lts.Need-add-holds-2 (holds-given t) (ho
 holds-add-holds-2 t c = omega (arith, inside t (c .before))
 
 holds-holds-requires-2 : (t : ℕ) → holds-lts.Need-holds-requires-2 (holds-given t) (holds-at t) holds.Post
-holds-holds-requires-2 t c κs = let s = c .before .before .before .before .before .before .before .before .before .before .before .before .before in (omega (arith, inside t (c .before .before .before), s .pre .0), s .pre .1)
+holds-holds-requires-2 t c κs =
+    let s = c .before .before .before .before .before .before .before .before .before .before .before .before .before in
+    (omega (arith, inside t (c .before .before .before), s .pre .0), s .pre .1)
 
 holds-decides-requires : (t : ℕ) → holds-lts.Need-decides-requires (holds-given t) (holds-at t) holds.Post
 holds-decides-requires t c κs = search needs
@@ -151,7 +202,12 @@ holds-same-length-2 : (t : ℕ) → holds-lts.Need-same-length-2 (holds-given t)
 holds-same-length-2 t c = search needs
 
 holds-returns-2 : (t : ℕ) → holds-lts.Need-returns-2 (holds-given t) (holds-at t) holds.Post
-holds-returns-2 t c = (tells-first _ _ _ _ _ (two-of _ (c .before .before .before .before .before .before .before .before .before .match2 .keys4)) (reads-as t (c .before .before .before .before .before .before .before .before .before .before)) _ (c .before .before .before .before .before .before .holds2 .ensures .0) (sym (c .before .decides .ensures) ∙ c .if1 .taken), c .before .before .before .before .before .before .holds2 .ensures .1)
+holds-returns-2 t c = (
+  tells-first _ _ _ _ _ (two-of _ (c .before .before .before .before .before .before .before .before .before .match2 .keys4))
+      (reads-as t (c .before .before .before .before .before .before .before .before .before .before)) _
+      (c .before .before .before .before .before .before .holds2 .ensures .0) (sym (c .before .decides .ensures) ∙ c .if1 .taken),
+  c .before .before .before .before .before .before .holds2 .ensures .1,
+)
 
 holds-add-span : (t : ℕ) → holds-lts.Need-add-span (holds-given t) (holds-at t) holds.Post
 holds-add-span t c = omega (arith, inside t (c .before .before .before .before .before .before .before .before .before .before))
@@ -175,7 +231,21 @@ holds-returns-3 : (t : ℕ) → holds-lts.Need-returns-3 (holds-given t) (holds-
 holds-returns-3 t c = (tells-refused _ _ _ _, c .before .before .before .before .before .before .before .before .before .holds2 .ensures .1)
 
 holds-holds-requires-3 : (t : ℕ) → holds-lts.Need-holds-requires-3 (holds-given t) (holds-at t) holds.Post
-holds-holds-requires-3 t c κs = let s = c .before .before .before .before .before .before .before .before .before .before .before .before .before .before .before .before .before .before .before .before .before .before .before .before .before .before in (omega (arith, inside t (c .before .before .before .before .before .before .before .before .before .before .before .before .before .before .before .before), s .pre .0, spans-on _ _ _ (c .before .before .before .before .before .span .ensures) _ _ _ (c .before .before .before .next .given .1)), (s .pre .1 .0, c .before .before .before .before .before .before .before .before .before .before .before .before .holds2 .ensures .1, s .pre .1 .2))
+holds-holds-requires-3 t c κs =
+    let s =
+    c .before .before .before .before .before .before .before .before .before .before .before .before .before .before .before .before .before .before .before .before .before .before .before .before .before .before in (
+      omega (
+        arith,
+        inside t (c .before .before .before .before .before .before .before .before .before .before .before .before .before .before .before .before),
+        s .pre .0,
+        spans-on _ _ _ (c .before .before .before .before .before .span .ensures) _ _ _ (c .before .before .before .next .given .1),
+      ),
+      (
+        s .pre .1 .0,
+        c .before .before .before .before .before .before .before .before .before .before .before .before .holds2 .ensures .1,
+        s .pre .1 .2,
+      ),
+    )
 
 holds-enum-known-kind-3 : (t : ℕ) → holds-lts.Need-enum-known-kind-3 (holds-given t) (holds-at t) holds.Post
 holds-enum-known-kind-3 t c = search needs
@@ -184,13 +254,23 @@ holds-add-reaches : (t : ℕ) → holds-lts.Need-add-reaches (holds-given t) (ho
 holds-add-reaches t c = omega (arith, inside t (c .before .before .before))
 
 holds-reaches-requires : (t : ℕ) → holds-lts.Need-reaches-requires (holds-given t) (holds-at t) holds.Post
-holds-reaches-requires t c κs = let s = c .before .before .before .before .before .before .before .before .before .before .before .before .before .before .before in let e = least-read _ _ (reads-as t (c .before .before .before .before .before) ∙ ap some (c .before .before .before .kind3 .given .1)) in (omega (arith, inside t (c .before .before .before .before .before), s .pre .0), (s .pre .1 .0, s .pre .1 .1, e .1, e .2, s .pre .1 .2))
+holds-reaches-requires t c κs =
+    let s = c .before .before .before .before .before .before .before .before .before .before .before .before .before .before .before in
+    let e = least-read _ _ (reads-as t (c .before .before .before .before .before) ∙ ap some (c .before .before .before .kind3 .given .1)) in
+    (omega (arith, inside t (c .before .before .before .before .before), s .pre .0), (s .pre .1 .0, s .pre .1 .1, e .1, e .2, s .pre .1 .2))
 
 holds-returns-4 : (t : ℕ) → holds-lts.Need-returns-4 (holds-given t) (holds-at t) holds.Post
-holds-returns-4 t c = (tells-true _ _ _ _ (reads-as t (c .before .before) ∙ ap some (c .enum-told2 .given .1)), c .before .before .before .before .before .before .before .before .before .before .before .before .pre .1 .1)
+holds-returns-4 t c = (
+  tells-true _ _ _ _ (reads-as t (c .before .before) ∙ ap some (c .enum-told2 .given .1)),
+  c .before .before .before .before .before .before .before .before .before .before .before .before .pre .1 .1,
+)
 
 holds-returns-5 : (t : ℕ) → holds-lts.Need-returns-5 (holds-given t) (holds-at t) holds.Post
-holds-returns-5 t c = let e = reads-as t (c .before .before .before .before .before) ∙ ap some (c .before .before .before .kind2 .given .1) in (tells-literal _ _ _ _ _ _ _ (e ∙ ap (λ (z : ℤ). some (Literal z)) (sym (literal-back _ _ e))) (c .before .marks .ensures) (c .shows .ensures), c .before .before .before .before .before .before .before .before .before .before .before .before .before .before .before .pre .1 .1)
+holds-returns-5 t c =
+    let e = reads-as t (c .before .before .before .before .before) ∙ ap some (c .before .before .before .kind2 .given .1) in (
+      tells-literal _ _ _ _ _ _ _ (e ∙ ap (λ (z : ℤ). some (Literal z)) (sym (literal-back _ _ e))) (c .before .marks .ensures) (c .shows .ensures),
+      c .before .before .before .before .before .before .before .before .before .before .before .before .before .before .before .pre .1 .1,
+    )
 
 holds-same-length-5 : (t : ℕ) → holds-lts.Need-same-length-5 (holds-given t) (holds-at t) holds.Post
 holds-same-length-5 t c = search needs
@@ -199,7 +279,14 @@ holds-same-length-6 : (t : ℕ) → holds-lts.Need-same-length-6 (holds-given t)
 holds-same-length-6 t c = search needs
 
 holds-returns-6 : (t : ℕ) → holds-lts.Need-returns-6 (holds-given t) (holds-at t) holds.Post
-holds-returns-6 t c = (rw (c .turned .ensures) (tells-not _ _ _ _ _ (reads-as t (c .before .before .before .before .before .before .before .before .before .before) ∙ ap some (c .before .before .before .before .before .before .before .before .enum-told3 .given .1)) (c .before .before .before .before .before .holds .ensures .0)), c .before .before .before .before .before .holds .ensures .1)
+holds-returns-6 t c = (
+  rw (c .turned .ensures)
+      (tells-not _ _ _ _ _
+      (reads-as t (c .before .before .before .before .before .before .before .before .before .before)
+      ∙ ap some (c .before .before .before .before .before .before .before .before .enum-told3 .given .1))
+      (c .before .before .before .before .before .holds .ensures .0)),
+  c .before .before .before .before .before .holds .ensures .1,
+)
 
 holds-same-length-7 : (t : ℕ) → holds-lts.Need-same-length-7 (holds-given t) (holds-at t) holds.Post
 holds-same-length-7 t c = search needs
@@ -208,7 +295,20 @@ holds-same-length-8 : (t : ℕ) → holds-lts.Need-same-length-8 (holds-given t)
 holds-same-length-8 t c = search needs
 
 holds-returns-7 : (t : ℕ) → holds-lts.Need-returns-7 (holds-given t) (holds-at t) holds.Post
-holds-returns-7 t c = (tells-second _ _ _ _ _ (two-of _ (c .before .before .before .before .before .before .before .before .before .before .before .before .before .before .before .before .before .before .before .before .match2 .keys4)) (reads-as t (c .before .before .before .before .before .before .before .before .before .before .before .before .before .before .before .before .before .before .before .before .before)) _ (c .before .before .before .before .before .before .before .before .before .before .before .before .before .before .before .before .before .holds2 .ensures .0) (sym (c .before .before .before .before .before .before .before .before .before .before .before .before .decides .ensures) ∙ c .before .before .before .before .before .before .before .before .before .before .before .if1 .left) _ (c .before .before .before .before .before .before .before .before .before .before .span .ensures) _ _ _ _ (c .before .before .before .before .before .before .before .before .next .given .1) (c .before .before .before .before .holds3 .ensures .0), c .before .before .before .before .holds3 .ensures .1)
+holds-returns-7 t c = (
+  tells-second _ _ _ _ _
+      (two-of _
+      (c .before .before .before .before .before .before .before .before .before .before .before .before .before .before .before .before .before .before .before .before .match2 .keys4))
+      (reads-as t
+      (c .before .before .before .before .before .before .before .before .before .before .before .before .before .before .before .before .before .before .before .before .before))
+      _
+      (c .before .before .before .before .before .before .before .before .before .before .before .before .before .before .before .before .before .holds2 .ensures .0)
+      (sym (c .before .before .before .before .before .before .before .before .before .before .before .before .decides .ensures)
+      ∙ c .before .before .before .before .before .before .before .before .before .before .before .if1 .left) _
+      (c .before .before .before .before .before .before .before .before .before .before .span .ensures) _ _ _ _
+      (c .before .before .before .before .before .before .before .before .next .given .1) (c .before .before .before .before .holds3 .ensures .0),
+  c .before .before .before .before .holds3 .ensures .1,
+)
 
 holds-same-length-9 : (t : ℕ) → holds-lts.Need-same-length-9 (holds-given t) (holds-at t) holds.Post
 holds-same-length-9 t c = search needs
@@ -217,7 +317,13 @@ holds-same-length-10 : (t : ℕ) → holds-lts.Need-same-length-10 (holds-given 
 holds-same-length-10 t c = search needs
 
 holds-returns-8 : (t : ℕ) → holds-lts.Need-returns-8 (holds-given t) (holds-at t) holds.Post
-holds-returns-8 t c = (tells-least _ _ _ _ _ _ _ _ (reads-as t (c .before .before .before .before .before .before .before .before .before .before) ∙ ap some (c .before .before .before .before .before .before .before .before .kind3 .given .1)) (c .before .before .before .before .reaches .ensures .0), c .before .before .before .before .reaches .ensures .1)
+holds-returns-8 t c = (
+  tells-least _ _ _ _ _ _ _ _
+      (reads-as t (c .before .before .before .before .before .before .before .before .before .before)
+      ∙ ap some (c .before .before .before .before .before .before .before .before .kind3 .given .1))
+      (c .before .before .before .before .reaches .ensures .0),
+  c .before .before .before .before .reaches .ensures .1,
+)
 
 -- ---- leads
 
@@ -243,8 +349,13 @@ leads-returns-2 : (t : ℕ) → leads-lts.Need-returns-2 (leads-given t) (leads-
 leads-returns-2 t c =
     let s = c .before .before .before .before .before .before .before .before .before .before .before .before .before in
     let f = c .before .before .before .before .far .ensures in
-    let few = item-few _ _ _ _ (s .pre .1 .0 .register) (f .1) in
-    (leads-there _ _ _ _ _ _ _ _ (c .before .before .before .before .before .before .label .ensures .0) (f .0) (c .before .before .before .before .before .if1 .left) _ (recalled-so _ _ _ (s .pre .1 .1) (s .args .at) _ few _ (c .before .recalled .ensures ∙ ap (λ (j : ℕ). getD (s .args .known .now) j 0) (c .before .before .before .slot-of .ensures)) (c .if2 .taken)), s .pre .1 .1)
+    let few = item-few _ _ _ _ (s .pre .1 .0 .register) (f .1) in (
+      leads-there _ _ _ _ _ _ _ _ (c .before .before .before .before .before .before .label .ensures .0) (f .0)
+          (c .before .before .before .before .before .if1 .left) _
+          (recalled-so _ _ _ (s .pre .1 .1) (s .args .at) _ few _
+          (c .before .recalled .ensures ∙ ap (λ (j : ℕ). getD (s .args .known .now) j 0) (c .before .before .before .slot-of .ensures)) (c .if2 .taken)),
+      s .pre .1 .1,
+    )
 
 leads-spent-requires : (t : ℕ) → leads-lts.Need-spent-requires (leads-given t) (leads-at t) leads.Post
 leads-spent-requires t c κs = search needs
@@ -259,10 +370,18 @@ leads-same-length-3 : (t : ℕ) → leads-lts.Need-same-length-3 (leads-given t)
 leads-same-length-3 t c = search needs
 
 leads-returns-3 : (t : ℕ) → leads-lts.Need-returns-3 (leads-given t) (leads-at t) leads.Post
-leads-returns-3 t c = (rw (c .tired .ensures) (tells-refused _ _ _ _), c .before .before .before .before .before .before .before .before .before .before .before .before .before .before .before .before .before .before .before .pre .1 .1)
+leads-returns-3 t c = (
+  rw (c .tired .ensures) (tells-refused _ _ _ _),
+  c .before .before .before .before .before .before .before .before .before .before .before .before .before .before .before .before .before .before .before .pre .1 .1,
+)
 
 leads-holds-requires : (t : ℕ) → leads-lts.Need-holds-requires (leads-given t) (leads-at t) leads.Post
-leads-holds-requires t c κs = let s = c .before .before .before .before .before .before .before .before .before .before .before .before .before .before .before .before .before .before .before .before in (omega (arith, s .pre .0), (s .pre .1 .0, s .pre .1 .1, c .before .before .before .before .before .before .before .before .before .before .before .far .ensures .1))
+leads-holds-requires t c κs =
+    let s =
+    c .before .before .before .before .before .before .before .before .before .before .before .before .before .before .before .before .before .before .before .before in (
+      omega (arith, s .pre .0),
+      (s .pre .1 .0, s .pre .1 .1, c .before .before .before .before .before .before .before .before .before .before .before .far .ensures .1),
+    )
 
 leads-enum-known-yes : (t : ℕ) → leads-lts.Need-enum-known-yes (leads-given t) (leads-at t) leads.Post
 leads-enum-known-yes t c = search needs
@@ -293,13 +412,22 @@ leads-same-length-7 t c = search needs
 
 leads-returns-5 : (t : ℕ) → leads-lts.Need-returns-5 (leads-given t) (leads-at t) leads.Post
 leads-returns-5 t c =
-    let s = c .before .before .before .before .before .before .before .before .before .before .before .before .before .before .before .before .before .before .before .before .before .before .before .before .before .before .before .before .before .before .before .before in
-    let f = c .before .before .before .before .before .before .before .before .before .before .before .before .before .before .before .before .before .before .before .before .before .before .before .far .ensures in
+    let s =
+    c .before .before .before .before .before .before .before .before .before .before .before .before .before .before .before .before .before .before .before .before .before .before .before .before .before .before .before .before .before .before .before .before in
+    let f =
+    c .before .before .before .before .before .before .before .before .before .before .before .before .before .before .before .before .before .before .before .before .before .before .before .far .ensures in
     let h = c .before .before .before .before .before .before .before .before .before .before .before .holds .ensures in
     let y = c .before .before .before .before .before .yes .given in
     let few = item-few _ _ _ _ (s .pre .1 .0 .register) (f .1) in (
-      leads-there _ _ _ _ _ _ _ _ (c .before .before .before .before .before .before .before .before .before .before .before .before .before .before .before .before .before .before .before .before .before .before .before .before .before .label .ensures .0) (f .0) (c .before .before .before .before .before .before .before .before .before .before .before .before .before .before .before .before .before .before .before .before .before .before .before .before .if1 .left) (y .0 .0) (λ u k parsed. h .0 u k parsed (y .0 .0) (y .1)),
-      rw (c .before .before .remember .ensures, c .before .before .before .before .before .before .before .before .before .before .before .before .before .before .before .before .before .before .before .before .before .before .slot-of .ensures) (remembers-kept _ _ _ (h .1) (s .args .at) _ few (y .0 .0) (λ u k parsed. h .0 u k parsed (y .0 .0) (y .1))),
+      leads-there _ _ _ _ _ _ _ _
+          (c .before .before .before .before .before .before .before .before .before .before .before .before .before .before .before .before .before .before .before .before .before .before .before .before .before .label .ensures .0)
+          (f .0)
+          (c .before .before .before .before .before .before .before .before .before .before .before .before .before .before .before .before .before .before .before .before .before .before .before .before .if1 .left)
+          (y .0 .0) (λ u k parsed. h .0 u k parsed (y .0 .0) (y .1)),
+      rw (
+        c .before .before .remember .ensures,
+        c .before .before .before .before .before .before .before .before .before .before .before .before .before .before .before .before .before .before .before .before .before .before .slot-of .ensures,
+      ) (remembers-kept _ _ _ (h .1) (s .args .at) _ few (y .0 .0) (λ u k parsed. h .0 u k parsed (y .0 .0) (y .1))),
     )
 
 -- ---- reaches
@@ -317,13 +445,18 @@ reaches-last-requires : (t : ℕ) → reaches-lts.Need-last-requires (reaches-gi
 reaches-last-requires t c κs = let s = c .before .before .before .before .before .before .pre .1 in (s .0 .register, s .0 .outs-are, s .0 .ins-are, s .4)
 
 reaches-loop-holds : (t : ℕ) → reaches-lts.Need-loop-holds (reaches-given t) (reaches-at t) reaches.Post Inv-loop μ-loop
-reaches-loop-holds t c = let s = c .before .before .before .before .before .before .before .pre .1 in let l = c .last .ensures in (s .2, l .low, l .own, met-none _ _ _ _ _ _ _ _ (s .0 .register .links-are) l, s .1, refl, refl)
+reaches-loop-holds t c =
+    let s = c .before .before .before .before .before .before .before .pre .1 in
+    let l = c .last .ensures in (s .2, l .low, l .own, met-none _ _ _ _ _ _ _ _ (s .0 .register .links-are) l, s .1, refl, refl)
 
 reaches-sub-leads : (t : ℕ) → reaches-lts.Need-sub-leads (reaches-given t) (reaches-at t) reaches.Post Inv-loop μ-loop
 reaches-sub-leads t c = search needs
 
 reaches-leads-requires : (t : ℕ) → reaches-lts.Need-leads-requires (reaches-given t) (reaches-at t) reaches.Post Inv-loop μ-loop
-reaches-leads-requires t c κs = let s = c .before .before .before .before .before .before .before .before .before .before .before in let l = c .before .before .before .loop .inv in (omega (arith, s .pre .0), (s .pre .1 .0, l .4, omega (arith, l .1, c .before .before .loop-test .taken)))
+reaches-leads-requires t c κs =
+    let s = c .before .before .before .before .before .before .before .before .before .before .before in
+    let l = c .before .before .before .loop .inv in
+    (omega (arith, s .pre .0), (s .pre .1 .0, l .4, omega (arith, l .1, c .before .before .loop-test .taken)))
 
 reaches-enum-known-yes : (t : ℕ) → reaches-lts.Need-enum-known-yes (reaches-given t) (reaches-at t) reaches.Post Inv-loop μ-loop
 reaches-enum-known-yes t c = search needs
@@ -344,7 +477,12 @@ reaches-returns : (t : ℕ) → reaches-lts.Need-returns (reaches-given t) (reac
 reaches-returns t c = (rw (c .tired .ensures) (tells-refused _ _ _ _), c .before .before .before .before .before .before .before .leads .ensures .1)
 
 reaches-added-requires : (t : ℕ) → reaches-lts.Need-added-requires (reaches-given t) (reaches-at t) reaches.Post Inv-loop μ-loop
-reaches-added-requires t c κs = omega (arith, c .before .before .before .before .before .before .before .before .before .before .before .loop .inv .0, c .before .before .before .before .before .before .before .before .before .before .before .before .before .before .before .before .before .before .before .pre .1 .3)
+reaches-added-requires t c κs =
+    omega (
+      arith,
+      c .before .before .before .before .before .before .before .before .before .before .before .loop .inv .0,
+      c .before .before .before .before .before .before .before .before .before .before .before .before .before .before .before .before .before .before .before .pre .1 .3,
+    )
 
 reaches-same-length-3 : (t : ℕ) → reaches-lts.Need-same-length-3 (reaches-given t) (reaches-at t) reaches.Post Inv-loop μ-loop
 reaches-same-length-3 t c = search needs
@@ -354,7 +492,8 @@ reaches-same-length-4 t c = search needs
 
 reaches-returns-2 : (t : ℕ) → reaches-lts.Need-returns-2 (reaches-given t) (reaches-at t) reaches.Post Inv-loop μ-loop
 reaches-returns-2 t c =
-    let s = c .before .before .before .before .before .before .before .before .before .before .before .before .before .before .before .before .before .before .before .before .before in
+    let s =
+    c .before .before .before .before .before .before .before .before .before .before .before .before .before .before .before .before .before .before .before .before .before in
     let l = c .before .before .before .before .before .before .before .before .before .before .before .before .before .loop .inv in
     let test = c .before .before .before .before .before .before .before .before .before .before .before .before .loop-test .taken in
     let h = c .before .before .before .before .before .before .before .before .before .leads .ensures in
@@ -363,17 +502,24 @@ reaches-returns-2 t c =
 
 reaches-before-requires : (t : ℕ) → reaches-lts.Need-before-requires (reaches-given t) (reaches-at t) reaches.Post Inv-loop μ-loop
 reaches-before-requires t c κs =
-    let s = c .before .before .before .before .before .before .before .before .before .before .before .before .before .before .before .before .before .before .before .before .before in
+    let s =
+    c .before .before .before .before .before .before .before .before .before .before .before .before .before .before .before .before .before .before .before .before .before in
     let l = c .before .before .before .before .before .before .before .before .before .before .before .before .before .loop .inv in
     let test = c .before .before .before .before .before .before .before .before .before .before .before .before .loop-test .taken in
     (s .pre .1 .0 .register, s .pre .1 .0 .ins-are, s .pre .1 .4, omega (arith, test), l .1, own-link _ _ _ _ (l .2) test)
 
 reaches-loop-less : (t : ℕ) → reaches-lts.Need-loop-less (reaches-given t) (reaches-at t) reaches.Post Inv-loop μ-loop
-reaches-loop-less t c = omega (arith, c .before2 .ensures .low, c .before .before .before .before .before .before .before .before .before .before .before .before .before .loop-test .taken)
+reaches-loop-less t c =
+    omega (
+      arith,
+      c .before2 .ensures .low,
+      c .before .before .before .before .before .before .before .before .before .before .before .before .before .loop-test .taken,
+    )
 
 reaches-loop-again : (t : ℕ) → reaches-lts.Need-loop-again (reaches-given t) (reaches-at t) reaches.Post Inv-loop μ-loop
 reaches-loop-again t c =
-    let s = c .before .before .before .before .before .before .before .before .before .before .before .before .before .before .before .before .before .before .before .before .before .before in
+    let s =
+    c .before .before .before .before .before .before .before .before .before .before .before .before .before .before .before .before .before .before .before .before .before .before in
     let l = c .before .before .before .before .before .before .before .before .before .before .before .before .before .before .loop .inv in
     let test = c .before .before .before .before .before .before .before .before .before .before .before .before .before .loop-test .taken in
     let h = c .before .before .before .before .before .before .before .before .before .before .leads .ensures in

@@ -20,7 +20,9 @@ slice-aggregate-holds-4 : tie.Need-slice-aggregate-holds-4
 slice-aggregate-holds-4 c = search needs
 
 holds-requires : tie.Need-holds-requires
-holds-requires c κs = let s = c .before .before .before .before .before .before .before .pre in (record { register = s .0; outs-are = no-outs _ _ (omega arith); ins-are = no-ins _ _ (omega arith) }, remembers-none _ _ 1 (omega arith), s .1)
+holds-requires c κs =
+    let s = c .before .before .before .before .before .before .before .pre in
+    (record { register = s .0; outs-are = no-outs _ _ (omega arith); ins-are = no-ins _ _ (omega arith) }, remembers-none _ _ 1 (omega arith), s .1)
 
 returns : tie.Need-returns
 returns c = c .before .before .holds .ensures .0
@@ -56,7 +58,11 @@ part-ask-deep-end-2 : tie.Need-part-ask-deep-end-2
 part-ask-deep-end-2 c = omega (arith, c .before .before .before .before .put-ins .ensures .0, c .before .before .before .before .put-ins .ensures .1)
 
 ask-deep-requires : tie.Need-ask-deep-requires
-ask-deep-requires c κs = let s = c .before .before .before .before .before .before .before .before .before .before .before .before .before .pre in let o = c .before .before .before .before .before .before .before .before .put-outs .ensures in let i = c .before .before .before .before .before .put-ins .ensures in (record { register = s .0; outs-are = outs-part _ _ _ (o .0) (o .1) (o .2); ins-are = ins-part _ _ _ (i .0) (i .1) (i .2) }, s .1)
+ask-deep-requires c κs =
+    let s = c .before .before .before .before .before .before .before .before .before .before .before .before .before .pre in
+    let o = c .before .before .before .before .before .before .before .before .put-outs .ensures in
+    let i = c .before .before .before .before .before .put-ins .ensures in
+    (record { register = s .0; outs-are = outs-part _ _ _ (o .0) (o .1) (o .2); ins-are = ins-part _ _ _ (i .0) (i .1) (i .2) }, s .1)
 
 returns-2 : tie.Need-returns-2
 returns-2 c = c .ask-deep .ensures

@@ -123,7 +123,11 @@ returns c =
     let s = l .before .before .before .before .before in
     let a = s .args in
     let e : l .loop .x ≡ a .n = omega arith in
-    let w = subst (λ (x : ℕ). Under (a .n) (take (a .n) (a .classes .now)) (a .starts .now) (a .rows .now) (a .out .now) (l .loop .out) x (l .loop .seen) (l .loop .at)) e (l .loop .inv .2) in
+    let w =
+    subst
+    (λ (x : ℕ).
+    Under (a .n) (take (a .n) (a .classes .now)) (a .starts .now) (a .rows .now) (a .out .now) (l .loop .out) x (l .loop .seen) (l .loop .at)) e
+    (l .loop .inv .2) in
     λ R µ gs g. all-done R µ gs _ _ _ _ g _ _ _ _ (s .pre .1) w
 
 pub row-numbers-spec : {M : Type 1} → statement M

@@ -76,7 +76,17 @@ cast-if4 : tie.Need-cast-if4
 cast-if4 c = search needs
 
 returns-4 : tie.Need-returns-4
-returns-4 c = not-laid _ (λ l. c .if4 .taken (omega (arith, c .before .two6 .ensures, l .links-from, c .before .before .before .before .before .before .before .before .two .ensures, c .before .before .before .before .before .before .before .two2 .ensures)))
+returns-4 c =
+    not-laid _
+    (λ l.
+    c .if4 .taken
+    (omega (
+      arith,
+      c .before .two6 .ensures,
+      l .links-from,
+      c .before .before .before .before .before .before .before .before .two .ensures,
+      c .before .before .before .before .before .before .before .two2 .ensures,
+    )))
 
 two-requires-7 : tie.Need-two-requires-7
 two-requires-7 c κs = search needs
@@ -85,7 +95,18 @@ cast-if5 : tie.Need-cast-if5
 cast-if5 c = search needs
 
 returns-5 : tie.Need-returns-5
-returns-5 c = not-laid _ (λ l. c .if5 .taken (omega (arith, c .before .two7 .ensures, l .map-from, c .before .before .before .before .before .before .before .before .before .before .two .ensures, c .before .before .before .before .before .before .before .before .before .two2 .ensures, c .before .before .before .before .before .before .before .before .two3 .ensures)))
+returns-5 c =
+    not-laid _
+    (λ l.
+    c .if5 .taken
+    (omega (
+      arith,
+      c .before .two7 .ensures,
+      l .map-from,
+      c .before .before .before .before .before .before .before .before .before .before .two .ensures,
+      c .before .before .before .before .before .before .before .before .before .two2 .ensures,
+      c .before .before .before .before .before .before .before .before .two3 .ensures,
+    )))
 
 two-requires-8 : tie.Need-two-requires-8
 two-requires-8 c κs = search needs

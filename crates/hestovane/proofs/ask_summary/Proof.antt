@@ -29,7 +29,11 @@ slice-aggregate-ask-read : tie.Need-slice-aggregate-ask-read
 slice-aggregate-ask-read c = search needs
 
 ask-read-requires : tie.Need-ask-read-requires
-ask-read-requires c κs = let yes = not-false _ (c .before .before .before .before .before .if1 .left) in readied _ _ _ _ _ (sym (c .before .before .before .before .before .before .before .judge .ensures .0) ∙ yes) (search needs) (keyed-as _ _ _ yes (c .before .before .before .before .before .before .before .judge .ensures .1)) (sym (ap told (c .before .before .judged .given .1)) ∙ c .before .before .before .before .judge2 .ensures)
+ask-read-requires c κs =
+    let yes = not-false _ (c .before .before .before .before .before .if1 .left) in
+    readied _ _ _ _ _ (sym (c .before .before .before .before .before .before .before .judge .ensures .0) ∙ yes) (search needs)
+    (keyed-as _ _ _ yes (c .before .before .before .before .before .before .before .judge .ensures .1))
+    (sym (ap told (c .before .before .judged .given .1)) ∙ c .before .before .before .before .judge2 .ensures)
 
 enum-known-judged-2 : tie.Need-enum-known-judged-2
 enum-known-judged-2 c = search needs
@@ -38,7 +42,11 @@ returns-2 : tie.Need-returns-2
 returns-2 c = c .ask-read .ensures
 
 returns-3 : tie.Need-returns-3
-returns-3 c = let v = verdict-refused _ _ (sym (ap told (c .before .judged2 .given .1)) ∙ c .before .before .before .judge2 .ensures) in ap number (v .1) ∙ ask-five _ _ _ (sym (c .before .before .before .before .before .before .judge .ensures .0) ∙ not-false _ (c .before .before .before .before .if1 .left)) (v .0)
+returns-3 c =
+    let v = verdict-refused _ _ (sym (ap told (c .before .judged2 .given .1)) ∙ c .before .before .before .judge2 .ensures) in
+    ap number (v .1)
+    ∙ ask-five _ _ _
+    (sym (c .before .before .before .before .before .before .judge .ensures .0) ∙ not-false _ (c .before .before .before .before .if1 .left)) (v .0)
 
 pub ask-summary-spec : {M : Type 1} → statement M
 ask-summary-spec =

@@ -17,13 +17,20 @@ slice-aggregate-check : tie.Need-slice-aggregate-check
 slice-aggregate-check c = search needs
 
 check-requires : tie.Need-check-requires
-check-requires c κs = let j = c .before .before .before .judge in let yes = c .before .if1 .taken in (c .before .before .before .before .before .before .before .pre, sym (j .ensures .0) ∙ yes, search needs, keyed-as _ _ _ yes (j .ensures .1))
+check-requires c κs =
+    let j = c .before .before .before .judge in
+    let yes = c .before .if1 .taken in
+    (c .before .before .before .before .before .before .before .pre, sym (j .ensures .0) ∙ yes, search needs, keyed-as _ _ _ yes (j .ensures .1))
 
 spoken-requires : tie.Need-spoken-requires
 spoken-requires c κs = search needs
 
 returns : tie.Need-returns
-returns c = c .spoken .ensures ∙ ap word (c .before .check .ensures) ∙ check-said _ _ (c .before .before .before .before .before .before .before .before .before .pre .fine) (sym (c .before .before .before .before .before .judge .ensures .0) ∙ c .before .before .before .if1 .taken)
+returns c =
+    c .spoken .ensures
+    ∙ ap word (c .before .check .ensures)
+    ∙ check-said _ _ (c .before .before .before .before .before .before .before .before .before .pre .fine)
+    (sym (c .before .before .before .before .before .judge .ensures .0) ∙ c .before .before .before .if1 .taken)
 
 returns-2 : tie.Need-returns-2
 returns-2 c = check-six _ _ (c .before .before .before .before .before .before .pre .fine) (sym (c .before .before .judge .ensures .0) ∙ c .if1 .left)

@@ -19,7 +19,9 @@ same-length : tie.Need-same-length
 same-length c = search needs
 
 returns : tie.Need-returns
-returns c = let s = c .before .before .before in (toZ-ofZ {w = w32} {z = c .measured .result} (search needs) ∙ c .measured .ensures ∙ ap code (s .list .ensures .says), s .list .ensures .leaves)
+returns c =
+    let s = c .before .before .before in
+    (toZ-ofZ {w = w32} {z = c .measured .result} (search needs) ∙ c .measured .ensures ∙ ap code (s .list .ensures .says), s .list .ensures .leaves)
 
 pub hestovane-list-spec : {M : Type 1} → statement M
 hestovane-list-spec = tie.close (tie.spec list-requires measured-requires same-length returns)

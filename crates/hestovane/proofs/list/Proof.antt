@@ -30,7 +30,11 @@ slice-aggregate-list-read : tie.Need-slice-aggregate-list-read
 slice-aggregate-list-read c = search needs
 
 list-read-requires : tie.Need-list-read-requires
-list-read-requires c κs = let yes = not-false _ (c .before .before .before .before .before .before .if1 .left) in readied _ _ _ _ _ (sym (c .before .before .before .before .before .before .before .before .judge .ensures .0) ∙ yes) (search needs) (keyed-as _ _ _ yes (c .before .before .before .before .before .before .before .before .judge .ensures .1)) (sym (ap told (c .before .before .before .judged .given .1)) ∙ c .before .before .before .before .before .judge2 .ensures)
+list-read-requires c κs =
+    let yes = not-false _ (c .before .before .before .before .before .before .if1 .left) in
+    readied _ _ _ _ _ (sym (c .before .before .before .before .before .before .before .before .judge .ensures .0) ∙ yes) (search needs)
+    (keyed-as _ _ _ yes (c .before .before .before .before .before .before .before .before .judge .ensures .1))
+    (sym (ap told (c .before .before .before .judged .given .1)) ∙ c .before .before .before .before .before .judge2 .ensures)
 
 enum-known-judged-2 : tie.Need-enum-known-judged-2
 enum-known-judged-2 c = search needs
@@ -42,7 +46,13 @@ returns-2 : tie.Need-returns-2
 returns-2 c = c .before .before .list-read .ensures
 
 returns-3 : tie.Need-returns-3
-returns-3 c = let v = verdict-refused _ _ (sym (ap told (c .before .judged2 .given .1)) ∙ c .before .before .before .judge2 .ensures) in gives-this _ _ _ _ _ (ap Answers.refused (v .1) ∙ list-five _ _ _ (sym (c .before .before .before .before .before .before .judge .ensures .0) ∙ not-false _ (c .before .before .before .before .if1 .left)) (v .0)) (gives-refused _ _)
+returns-3 c =
+    let v = verdict-refused _ _ (sym (ap told (c .before .judged2 .given .1)) ∙ c .before .before .before .judge2 .ensures) in
+    gives-this _ _ _ _ _
+    (ap Answers.refused (v .1)
+    ∙ list-five _ _ _
+    (sym (c .before .before .before .before .before .before .judge .ensures .0) ∙ not-false _ (c .before .before .before .before .if1 .left)) (v .0))
+    (gives-refused _ _)
 
 pub list-spec : {M : Type 1} → statement M
 list-spec =

@@ -20,7 +20,10 @@ beyond-requires c κs = c .before .before .before .before .pre .well
 returns : tie.Need-returns
 returns c =
     let s = c .before .before .before .before .before .before .pre in
-    gives-this _ _ _ _ _ (list-seven _ _ _ (s .well) (s .tree) (s .reads) (sym (beyond-by _ (s .tree) _ _ (sym (s .depth-is)) (sym (s .threshold-is))) ∙ sym (c .before .beyond .ensures) ∙ c .if1 .taken)) (gives-refused _ _)
+    gives-this _ _ _ _ _
+    (list-seven _ _ _ (s .well) (s .tree) (s .reads)
+    (sym (beyond-by _ (s .tree) _ _ (sym (s .depth-is)) (sym (s .threshold-is))) ∙ sym (c .before .beyond .ensures) ∙ c .if1 .taken))
+    (gives-refused _ _)
 
 classes-requires : tie.Need-classes-requires
 classes-requires c κs = well-file _ (c .before .before .before .before .before .before .pre .well) .0
@@ -29,7 +32,9 @@ slice-aggregate-put-answers : tie.Need-slice-aggregate-put-answers
 slice-aggregate-put-answers c = search needs
 
 put-answers-requires : tie.Need-put-answers-requires
-put-answers-requires c κs = let s = c .before .before .before .before .before .before .before .before .pre in (s .well, s .keys-long, s .kept, omega (arith, c .before .classes .ensures .0), search needs)
+put-answers-requires c κs =
+    let s = c .before .before .before .before .before .before .before .before .pre in
+    (s .well, s .keys-long, s .kept, omega (arith, c .before .classes .ensures .0), search needs)
 
 enum-told : tie.Need-enum-told
 enum-told c = search needs
@@ -56,7 +61,10 @@ slice-aggregate-put-list c = search needs
 
 put-list-requires : tie.Need-put-list-requires
 put-list-requires c κs =
-    let few = few-named _ _ _ (c .before .before .before .before .before .before .before .before .before .before .before .before .before .before .before .before .before .before .pre .well) (c .before .before .before .put-items .ensures .0) in
+    let few =
+    few-named _ _ _
+    (c .before .before .before .before .before .before .before .before .before .before .before .before .before .before .before .before .before .before .pre .well)
+    (c .before .before .before .put-items .ensures .0) in
     (few, omega (arith, few))
 
 same-length : tie.Need-same-length
@@ -68,7 +76,9 @@ returns-3 c =
     let s = b .before .before .before .before .before .before .before .before .before in
     let r = s .pre in
     let said = b .put-answers .ensures (r .tree) _ (parsed-question _ (r .tree) (r .reads)) .1 in
-    let named = list-named _ (r .tree) (b .put-answers .last .1 .1 .1 .1 .1 .1 .0) (r .well) (λ i h. said i (omega arith) (omega (arith, b .before .before .classes .ensures .0))) in
+    let named =
+    list-named _ (r .tree) (b .put-answers .last .1 .1 .1 .1 .1 .1 .0) (r .well)
+    (λ i h. said i (omega arith) (omega (arith, b .before .before .classes .ensures .0))) in
     gives-this _ _ _ _ _
     (ap (λ (l : List ℕ). into (length (s .args .out .now)) (pack put2 l)) (c .before .before .before .before .before .before .put-items .ensures .1 ∙ named)
     ∙ list-into _ _ _ (r .well) (r .tree) (r .reads) (sym (beyond-by _ (r .tree) _ _ (sym (r .depth-is)) (sym (r .threshold-is))) ∙ sym (b .before .before .before .before .beyond .ensures) ∙ b .before .before .before .if1 .left))

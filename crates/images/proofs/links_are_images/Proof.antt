@@ -45,8 +45,12 @@ same-members-requires : tie.Need-same-members-requires
 same-members-requires c κs =
     let s = c .before .before .before .before .before .before .before .before .before .before .before in
     let e = c .before .before .before .before .before .before .before .before .links .ensures in
-    let keys = tab-front _ _ _ _ _ (e .0) (c .before .before .before .before .before .before .put-link-keys .ensures) in
-    (omega (arith, e .0, s .pre .1 .few-links), omega (arith, e .0, s .pre .1 .few-links), omega (arith, limits _ _ _ (s .pre .0) .1), ap (λ (t : List ℕ). ascends (λ k. k) t) keys ∙ links-ascend (summaryIn (s .args .s .now)) (s .pre .1 .well))
+    let keys = tab-front _ _ _ _ _ (e .0) (c .before .before .before .before .before .before .put-link-keys .ensures) in (
+      omega (arith, e .0, s .pre .1 .few-links),
+      omega (arith, e .0, s .pre .1 .few-links),
+      omega (arith, limits _ _ _ (s .pre .0) .1),
+      ap (λ (t : List ℕ). ascends (λ k. k) t) keys ∙ links-ascend (summaryIn (s .args .s .now)) (s .pre .1 .well),
+    )
 
 returns : tie.Need-returns
 returns c =

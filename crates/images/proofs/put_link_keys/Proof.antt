@@ -50,7 +50,9 @@ loop-less c = omega arith
 loop-again : tie.Need-loop-again Inv-loop μ-loop
 loop-again c =
     let l = c .before .before .before .before .before .loop in
-    let key = key-made (λ c. c) _ _ _ _ _ (c .before .before .before .link-source .ensures) (c .before .before .link-label .ensures) (c .before .link-target .ensures) (c .key-of .ensures) in
+    let key =
+    key-made (λ c. c) _ _ _ _ _ (c .before .before .before .link-source .ensures) (c .before .before .link-label .ensures)
+    (c .before .link-target .ensures) (c .key-of .ensures) in
     (omega arith, simp length-set (l .inv .1), rw (l .inv .2) (tab-more _ (l .j) _ _ (omega arith) key))
 
 same-length : tie.Need-same-length Inv-loop μ-loop

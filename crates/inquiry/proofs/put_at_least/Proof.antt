@@ -17,7 +17,14 @@ slice-aggregate-put-reached : tie.Need-slice-aggregate-put-reached
 slice-aggregate-put-reached c = omega (arith, c .before .before .count .ensures .long)
 
 put-reached-requires : tie.Need-put-reached-requires
-put-reached-requires c κs = (record { few = c .before .before .before .before .before .before .pre .0 .few; below = omega arith; long = c .before .before .before .before .before .before .pre .0 .long }, c .before .before .count .ensures .long)
+put-reached-requires c κs = (
+  record {
+    few = c .before .before .before .before .before .before .pre .0 .few;
+    below = omega arith;
+    long = c .before .before .before .before .before .before .pre .0 .long;
+  },
+  c .before .before .count .ensures .long,
+)
 
 same-length : tie.Need-same-length
 same-length c = search needs

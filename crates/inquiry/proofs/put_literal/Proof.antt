@@ -54,8 +54,11 @@ loop-less c = omega arith
 loop-again : tie.Need-loop-again Inv-loop μ-loop
 loop-again c =
     let m = c .before in
-    let l = m .before .before in
-    (omega arith, part-next _ _ _ _ _ (l .loop .inv .1) _ (omega arith) (omega arith) (c .shows .ensures ∙ ap (λ (k : ℕ). shows k (toZ w8 (ofZ w8 (l .before .before .before .args .literal)))) (m .marks .ensures)))
+    let l = m .before .before in (
+      omega arith,
+      part-next _ _ _ _ _ (l .loop .inv .1) _ (omega arith) (omega arith)
+          (c .shows .ensures ∙ ap (λ (k : ℕ). shows k (toZ w8 (ofZ w8 (l .before .before .before .args .literal)))) (m .marks .ensures)),
+    )
 
 same-length : tie.Need-same-length Inv-loop μ-loop
 same-length c = omega arith

@@ -40,8 +40,13 @@ add-key c = search needs
 loop-holds : tie.Need-loop-holds Inv-loop μ-loop
 loop-holds c =
     let r = c .rest-at in
-    let s = c .before .before .before .before in
-    (omega arith, omega arith, hand-first _ _ _ _ _ _ (read-at (s .args .b .now) (s .args .at) (s .args .n) 0 (s .args .at) _ _ _ (omega arith) (c .before .two .ensures) (r .ensures .0) (r .ensures .1) refl))
+    let s = c .before .before .before .before in (
+      omega arith,
+      omega arith,
+      hand-first _ _ _ _ _ _
+          (read-at (s .args .b .now) (s .args .at) (s .args .n) 0 (s .args .at) _ _ _ (omega arith) (c .before .two .ensures) (r .ensures .0)
+          (r .ensures .1) refl),
+    )
 
 add-loop : tie.Need-add-loop Inv-loop μ-loop
 add-loop c = omega arith

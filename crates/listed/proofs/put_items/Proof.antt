@@ -14,7 +14,9 @@ use Rattle.listed.proofs.put_items.Statement.{statement}
 use Rattle.listed.proofs.put_items.Tie as tie
 
 abbrev Inv-loop : tie.InvT-loop
-Inv-loop s answers out₀ n r₀ x₀ out r x = (x ≤ n) × (r ≡ length (those (λ x. getD answers (classAt (summaryIn s) x) false) x)) × (take r out ≡ those (λ x. getD answers (classAt (summaryIn s) x) false) x) × (length out ≡ length out₀)
+Inv-loop s answers out₀ n r₀ x₀ out r x =
+    (x ≤ n) × (r ≡ length (those (λ x. getD answers (classAt (summaryIn s) x) false) x)) ×
+    (take r out ≡ those (λ x. getD answers (classAt (summaryIn s) x) false) x) × (length out ≡ length out₀)
 
 abbrev μ-loop : tie.MeasureT-loop
 μ-loop s answers out₀ n r₀ x₀ out r x = n - x
@@ -29,7 +31,9 @@ cast-put-item : tie.Need-cast-put-item Inv-loop μ-loop
 cast-put-item c = omega (arith, c .loop-test .taken, c .before .before .items .ensures)
 
 class-of-requires : tie.Need-class-of-requires Inv-loop μ-loop
-class-of-requires c κs = let s = c .before .before .before .before .before .before .pre in record { exact-is = well-file _ (s .0) .0; item-is = omega (arith, c .loop-test .taken, c .before .before .items .ensures) }
+class-of-requires c κs =
+    let s = c .before .before .before .before .before .before .pre in
+    record { exact-is = well-file _ (s .0) .0; item-is = omega (arith, c .loop-test .taken, c .before .before .items .ensures) }
 
 cast-put-item-2 : tie.Need-cast-put-item-2 Inv-loop μ-loop
 cast-put-item-2 c = omega (arith, c .before .before .loop-test .taken, c .before .before .before .before .items .ensures)
@@ -38,10 +42,37 @@ index-requires : tie.Need-index-requires Inv-loop μ-loop
 index-requires c κs = search needs
 
 shared-slice-read-put-item : tie.Need-shared-slice-read-put-item Inv-loop μ-loop
-shared-slice-read-put-item c = let s = c .before .before .before .before .before .before .before .before .before .before .pre in omega (arith, class-low _ (c .before .before .before .before .before .loop .x) (s .0) (omega (arith, c .before .before .before .before .loop-test .taken, c .before .before .before .before .before .before .items .ensures)), s .1, c .before .index .ensures, c .before .before .before .class-of .ensures)
+shared-slice-read-put-item c =
+    let s = c .before .before .before .before .before .before .before .before .before .before .pre in
+    omega (
+      arith,
+      class-low _ (c .before .before .before .before .before .loop .x) (s .0)
+          (omega (arith, c .before .before .before .before .loop-test .taken, c .before .before .before .before .before .before .items .ensures)),
+      s .1,
+      c .before .index .ensures,
+      c .before .before .before .class-of .ensures,
+    )
 
 put-item-requires : tie.Need-put-item-requires Inv-loop μ-loop
-put-item-requires c κs = let s = c .before .before .before .before .before .before .before .before .before .before .pre in let l = c .before .before .before .before .before .loop .inv in (omega (arith, l .1, l .3, s .2, c .before .before .before .before .loop-test .taken, c .before .before .before .before .before .before .items .ensures, sized-file _ (s .0) .few-items, at-most (λ x. getD (c .before .before .before .before .before .before .before .before .before .before .args .answers .now) (classAt (summaryIn (c .before .before .before .before .before .before .before .before .before .before .args .s .now)) x) false) (c .before .before .before .before .before .loop .x)), l .3 ∙ s .2)
+put-item-requires c κs =
+    let s = c .before .before .before .before .before .before .before .before .before .before .pre in
+    let l = c .before .before .before .before .before .loop .inv in (
+      omega (
+        arith,
+        l .1,
+        l .3,
+        s .2,
+        c .before .before .before .before .loop-test .taken,
+        c .before .before .before .before .before .before .items .ensures,
+        sized-file _ (s .0) .few-items,
+        at-most
+            (λ x.
+            getD (c .before .before .before .before .before .before .before .before .before .before .args .answers .now)
+            (classAt (summaryIn (c .before .before .before .before .before .before .before .before .before .before .args .s .now)) x) false)
+            (c .before .before .before .before .before .loop .x),
+      ),
+      l .3 ∙ s .2,
+    )
 
 add-x : tie.Need-add-x Inv-loop μ-loop
 add-x c = omega arith
@@ -53,7 +84,18 @@ loop-again : tie.Need-loop-again Inv-loop μ-loop
 loop-again c =
     let l = c .before .before .before .before .before .before .before .before .loop .inv in
     let put = c .before .before .put-item .ensures in
-    let next = next-named (λ x. getD (c .before .before .before .before .before .before .before .before .before .before .before .before .before .args .answers .now) (classAt (summaryIn (c .before .before .before .before .before .before .before .before .before .before .before .before .before .args .s .now)) x) false) (c .before .before .before .before .before .before .before .before .loop .out) _ _ _ (c .before .before .before .before .before .before .before .before .loop .x) _ _ (ap (λ (k : ℕ). getD (c .before .before .before .before .before .before .before .before .before .before .before .before .before .args .answers .now) k false) (c .before .before .before .before .index .ensures ∙ c .before .before .before .before .before .before .class-of .ensures)) refl (l .1) (l .2) (put .0) (put .1) in
+    let next =
+    next-named
+    (λ x.
+    getD (c .before .before .before .before .before .before .before .before .before .before .before .before .before .args .answers .now)
+    (classAt (summaryIn (c .before .before .before .before .before .before .before .before .before .before .before .before .before .args .s .now)) x)
+    false) (c .before .before .before .before .before .before .before .before .loop .out) _ _ _
+    (c .before .before .before .before .before .before .before .before .loop .x) _ _
+    (ap
+    (λ (k : ℕ).
+    getD (c .before .before .before .before .before .before .before .before .before .before .before .before .before .args .answers .now) k false)
+    (c .before .before .before .before .index .ensures ∙ c .before .before .before .before .before .before .class-of .ensures)) refl (l .1) (l .2)
+    (put .0) (put .1) in
     (omega arith, next .0, next .1, search needs)
 
 same-length : tie.Need-same-length Inv-loop μ-loop
@@ -62,8 +104,23 @@ same-length c = c .before .loop .inv .3
 returns : tie.Need-returns Inv-loop μ-loop
 returns c =
     let l = c .before .loop .inv in
-    let e : c .before .loop .x ≡ length (summaryIn (c .before .before .before .before .before .before .args .s .now) .map) = omega (arith, c .loop-test .left, c .before .before .items .ensures) in
-    (l .1 ∙ ap (λ (n : ℕ). length (those (λ x. getD (c .before .before .before .before .before .before .args .answers .now) (classAt (summaryIn (c .before .before .before .before .before .before .args .s .now)) x) false) n)) e, l .2 ∙ ap (those (λ x. getD (c .before .before .before .before .before .before .args .answers .now) (classAt (summaryIn (c .before .before .before .before .before .before .args .s .now)) x) false)) e)
+    let e : c .before .loop .x ≡ length (summaryIn (c .before .before .before .before .before .before .args .s .now) .map) =
+    omega (arith, c .loop-test .left, c .before .before .items .ensures) in (
+      l .1
+          ∙ ap
+          (λ (n : ℕ).
+          length
+          (those
+          (λ x.
+          getD (c .before .before .before .before .before .before .args .answers .now)
+          (classAt (summaryIn (c .before .before .before .before .before .before .args .s .now)) x) false) n)) e,
+      l .2
+          ∙ ap
+          (those
+          (λ x.
+          getD (c .before .before .before .before .before .before .args .answers .now)
+          (classAt (summaryIn (c .before .before .before .before .before .before .args .s .now)) x) false)) e,
+    )
 
 pub put-items-spec : {M : Type 1} → statement M
 put-items-spec =

@@ -12,7 +12,15 @@ mul-if1 : tie.Need-mul-if1
 mul-if1 c = search needs
 
 returns : tie.Need-returns
-returns c = let s = c .before .before .before in no-room _ _ (omega (arith, c .if1 .taken, size-numbers (take (s .args .r) (s .args .named .now)), length-take-le (s .args .r) (s .args .named .now) (s .pre .1)))
+returns c =
+    let s = c .before .before .before in
+    no-room _ _
+    (omega (
+      arith,
+      c .if1 .taken,
+      size-numbers (take (s .args .r) (s .args .named .now)),
+      length-take-le (s .args .r) (s .args .named .now) (s .pre .1),
+    ))
 
 put-numbers-requires : tie.Need-put-numbers-requires
 put-numbers-requires c κs = let s = c .before .before .before .before in (omega (arith, c .before .if1 .left), s .pre .1)

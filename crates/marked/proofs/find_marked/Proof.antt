@@ -12,7 +12,8 @@ use Rattle.marked.proofs.find_marked.Statement.{statement}
 use Rattle.marked.proofs.find_marked.Tie as tie
 
 abbrev Inv-loop : tie.InvT-loop
-Inv-loop marks n s firsts₀ r₀ p₀ firsts r p = (p ≤ n) × (length firsts ≡ length firsts₀) × Run s r p × ((q : ℕ) → q < p → getD firsts (item s q) 0 ≡ first (sameMarks marks) (item s q))
+Inv-loop marks n s firsts₀ r₀ p₀ firsts r p =
+    (p ≤ n) × (length firsts ≡ length firsts₀) × Run s r p × ((q : ℕ) → q < p → getD firsts (item s q) 0 ≡ first (sameMarks marks) (item s q))
 
 abbrev μ-loop : tie.MeasureT-loop
 μ-loop marks n s firsts₀ r₀ p₀ firsts r p = n - p

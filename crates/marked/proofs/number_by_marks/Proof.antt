@@ -25,8 +25,13 @@ find-marked-requires c κs =
     let at-sort = c .before .before .before .before .before .before in
     let at-put-marks = at-sort .before .before .before .before .before in
     let s = at-put-marks .before .before .before .before .before .before in
-    let a = s .args in
-    (omega (arith, s .pre), omega (arith, s .pre), keys-listed (λ x. getD (a .marks .now) x 0) (a .n) (a .a .now) _ _ (at-put-marks .put-marks .ensures) (at-sort .sort .ensures), omega (arith, s .pre), omega (arith, s .pre))
+    let a = s .args in (
+      omega (arith, s .pre),
+      omega (arith, s .pre),
+      keys-listed (λ x. getD (a .marks .now) x 0) (a .n) (a .a .now) _ _ (at-put-marks .put-marks .ensures) (at-sort .sort .ensures),
+      omega (arith, s .pre),
+      omega (arith, s .pre),
+    )
 
 slice-aggregate-number-firsts : tie.Need-slice-aggregate-number-firsts
 slice-aggregate-number-firsts c = search needs
@@ -35,8 +40,12 @@ number-firsts-requires : tie.Need-number-firsts-requires
 number-firsts-requires c κs =
     let at-find-marked = c .before .before .before in
     let s = at-find-marked .before .before .before .before .before .before .before .before .before .before .before .before .before .before .before .before .before .before in
-    let a = s .args in
-    (omega (arith, s .pre), omega (arith, s .pre), omega (arith, s .pre), lows (sameMarks (a .marks .now)) (marks-equivalence (a .marks .now)) _ (a .n) (at-find-marked .find-marked .ensures))
+    let a = s .args in (
+      omega (arith, s .pre),
+      omega (arith, s .pre),
+      omega (arith, s .pre),
+      lows (sameMarks (a .marks .now)) (marks-equivalence (a .marks .now)) _ (a .n) (at-find-marked .find-marked .ensures),
+    )
 
 same-length : tie.Need-same-length
 same-length c = search needs

@@ -20,7 +20,9 @@ enum-told : tie.Need-enum-told
 enum-told c = search needs
 
 key-for-requires : tie.Need-key-for-requires
-key-for-requires c κs = let s = c .before .before .before .before .before .before .pre in record { exact-is = s .0 .exact-is; class-is = omega (arith, c .before .before .link-target .ensures, link-at _ (s .1) _ (s .2)) }
+key-for-requires c κs =
+    let s = c .before .before .before .before .before .before .pre in
+    record { exact-is = s .0 .exact-is; class-is = omega (arith, c .before .before .link-target .ensures, link-at _ (s .1) _ (s .2)) }
 
 enum-told-2 : tie.Need-enum-told-2
 enum-told-2 c = search needs
@@ -29,13 +31,21 @@ add-key-for : tie.Need-add-key-for
 add-key-for c = let s = c .before .before .before .before .before .before .pre in omega (arith, c .before .before .before .link-label .ensures, link-at _ (s .1) _ (s .2))
 
 key-for-requires-2 : tie.Need-key-for-requires-2
-key-for-requires-2 c κs = let s = c .before .before .before .before .before .before .pre in record { exact-is = s .0 .exact-is; class-is = omega (arith, c .before .before .before .before .link-source .ensures, link-at _ (s .1) _ (s .2)) }
+key-for-requires-2 c κs =
+    let s = c .before .before .before .before .before .before .pre in
+    record { exact-is = s .0 .exact-is; class-is = omega (arith, c .before .before .before .before .link-source .ensures, link-at _ (s .1) _ (s .2)) }
 
 returns : tie.Need-returns
-returns c = c .key-for .ensures ∙ asked-out _ _ _ _ _ _ (c .before .enum-told .given .1) (c .before .before .before .before .before .link-source .ensures) (c .before .before .before .before .link-label .ensures) (c .before .before .before .link-target .ensures)
+returns c =
+    c .key-for .ensures
+    ∙ asked-out _ _ _ _ _ _ (c .before .enum-told .given .1) (c .before .before .before .before .before .link-source .ensures)
+    (c .before .before .before .before .link-label .ensures) (c .before .before .before .link-target .ensures)
 
 returns-2 : tie.Need-returns-2
-returns-2 c = c .key-for2 .ensures ∙ asked-in _ _ _ _ _ _ (c .before .enum-told2 .given .1) (c .before .before .before .link-target .ensures) (omega (arith, c .before .before .before .before .link-label .ensures)) (c .before .before .before .before .before .link-source .ensures)
+returns-2 c =
+    c .key-for2 .ensures
+    ∙ asked-in _ _ _ _ _ _ (c .before .enum-told2 .given .1) (c .before .before .before .link-target .ensures)
+    (omega (arith, c .before .before .before .before .link-label .ensures)) (c .before .before .before .before .before .link-source .ensures)
 
 pub asked-key-spec : {M : Type 1} → statement M
 asked-key-spec =

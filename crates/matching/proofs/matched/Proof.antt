@@ -25,8 +25,18 @@ same-members-requires : tie.Need-same-members-requires
 same-members-requires c κs =
     let s = c .before .before .before .before .before .before .before .before .before .before .before .before .before .before .pre in
     let n = c .before .rows .ensures in
-    let e = c .before .before .before .before .before .before .before .before .before .before .links .ensures in
-    (omega (arith, s .0 .few-rows, s .5, n), omega (arith, s .0 .few-rows, n), omega (arith, s .6, e, c .before .before .before .before .before .before .before .before .put-asked .ensures .long, c .before .before .before .before .put-asked2 .ensures .long), keyed-rises _ _ _ (n .0) (s .3) (s .2))
+    let e = c .before .before .before .before .before .before .before .before .before .before .links .ensures in (
+      omega (arith, s .0 .few-rows, s .5, n),
+      omega (arith, s .0 .few-rows, n),
+      omega (
+        arith,
+        s .6,
+        e,
+        c .before .before .before .before .before .before .before .before .put-asked .ensures .long,
+        c .before .before .before .before .put-asked2 .ensures .long,
+      ),
+      keyed-rises _ _ _ (n .0) (s .3) (s .2),
+    )
 
 same-length : tie.Need-same-length
 same-length c = search needs
@@ -36,7 +46,9 @@ returns c =
     let s = c .before .before .before .before .before .before .before .before .before .before .before .before .before .before .before .pre in
     let e = c .before .before .before .before .before .before .before .before .before .before .before .links .ensures in
     c .same-members .ensures
-    ∙ match-by _ (s .1) (s .4) _ _ _ _ _ (c .before .before .rows .ensures .0) (s .3) _ (e .0) (omega (arith, s .6, e)) (c .before .before .before .before .before .before .before .before .before .put-asked .ensures) (c .before .before .before .before .before .put-asked2 .ensures)
+    ∙ match-by _ (s .1) (s .4) _ _ _ _ _ (c .before .before .rows .ensures .0) (s .3) _ (e .0) (omega (arith, s .6, e))
+    (c .before .before .before .before .before .before .before .before .before .put-asked .ensures)
+    (c .before .before .before .before .before .put-asked2 .ensures)
 
 pub matched-spec : {M : Type 1} → statement M
 matched-spec =

@@ -32,7 +32,9 @@ mul-asked : tie.Need-mul-asked Inv-loop μ-loop
 mul-asked c = let s = c .before .before .before .before .before .before .pre in omega (arith, s .2, s .3, c .before .loop-test .taken, c .before .before .before .links .ensures)
 
 slice-write-asked : tie.Need-slice-write-asked Inv-loop μ-loop
-slice-write-asked c = let s = c .before .before .before .before .before .before .pre in omega (arith, s .2, c .before .loop-test .taken, c .before .before .before .links .ensures, c .before .before .loop .inv .1)
+slice-write-asked c =
+    let s = c .before .before .before .before .before .before .pre in
+    omega (arith, s .2, c .before .loop-test .taken, c .before .before .before .links .ensures, c .before .before .loop .inv .1)
 
 add-j : tie.Need-add-j Inv-loop μ-loop
 add-j c = omega arith
@@ -43,15 +45,20 @@ loop-less c = omega arith
 loop-again : tie.Need-loop-again Inv-loop μ-loop
 loop-again c =
     let l = c .before .before .loop .inv in
-    let s = c .before .before .before .before .before .before .pre in
-    (omega arith, simp length-set (l .1), writes-next _ _ _ _ _ _ (omega (arith, s .2, c .before .loop-test .taken, c .before .before .before .links .ensures, l .1)) (c .asked-key .ensures) (l .2))
+    let s = c .before .before .before .before .before .before .pre in (
+      omega arith,
+      simp length-set (l .1),
+      writes-next _ _ _ _ _ _ (omega (arith, s .2, c .before .loop-test .taken, c .before .before .before .links .ensures, l .1))
+          (c .asked-key .ensures) (l .2),
+    )
 
 same-length : tie.Need-same-length Inv-loop μ-loop
 same-length c = omega (arith, c .before .loop .inv .1)
 
 returns : tie.Need-returns Inv-loop μ-loop
 returns c =
-    let e : c .before .loop .j ≡ length (summaryIn (c .before .before .before .before .before .args .s .now) .links) = omega (arith, c .loop-test .left, c .before .before .links .ensures) in
+    let e : c .before .loop .j ≡ length (summaryIn (c .before .before .before .before .before .args .s .now) .links) =
+    omega (arith, c .loop-test .left, c .before .before .links .ensures) in
     rw e at (c .before .loop .inv .2)
 
 pub put-asked-spec : {M : Type 1} → statement M

@@ -23,7 +23,11 @@ returns-2 : tie.Need-returns-2
 returns-2 c = sym (ap₂ decides (c .enum-told2 .given .1) (c .before .before .before .first .given .1))
 
 returns-3 : tie.Need-returns-3
-returns-3 c = sym (ap (decides (c .before .before .before .before .args .kind)) (c .before .before .first .given .1) ∙ ap (λ (b : Bool). cond b (c .before .before .first .given .0 .0) (not (c .before .before .first .given .0 .0))) (not-any (c .before .before .before .before .args .kind) (c .match2 .keys2)))
+returns-3 c =
+    sym
+    (ap (decides (c .before .before .before .before .args .kind)) (c .before .before .first .given .1)
+    ∙ ap (λ (b : Bool). cond b (c .before .before .first .given .0 .0) (not (c .before .before .first .given .0 .0)))
+    (not-any (c .before .before .before .before .args .kind) (c .match2 .keys2)))
 
 pub decides-spec : {M : Type 1} → statement M
 decides-spec =

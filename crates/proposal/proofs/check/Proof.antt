@@ -40,33 +40,52 @@ marks-equal-requires c κs =
     (record { fine = o .fine; items-are = o .items-are }, proposed _ _ (s .pre .1) (sym (c .before .before .before .items .ensures .0) ∙ c .before .before .if1 .left))
 
 returns-2 : tie.Need-returns-2
-returns-2 c = no-marks _ _ _ (c .before .before .before .before .before .before .before .before .before .pre .0 .items-are) (sym (c .before .marks-equal .ensures) ∙ not-true _ (c .if2 .taken))
+returns-2 c =
+    no-marks _ _ _ (c .before .before .before .before .before .before .before .before .before .pre .0 .items-are)
+    (sym (c .before .marks-equal .ensures) ∙ not-true _ (c .if2 .taken))
 
 counts-equal-requires : tie.Need-counts-equal-requires
-counts-equal-requires c κs = (proposed _ _ (c .before .before .before .before .before .before .before .before .before .pre .1) (sym (c .before .before .before .before .before .items .ensures .0) ∙ c .before .before .before .before .if1 .left), c .before .before .class-cap .ensures)
+counts-equal-requires c κs = (
+  proposed _ _ (c .before .before .before .before .before .before .before .before .before .pre .1)
+      (sym (c .before .before .before .before .before .items .ensures .0) ∙ c .before .before .before .before .if1 .left),
+  c .before .before .class-cap .ensures,
+)
 
 returns-3 : tie.Need-returns-3
-returns-3 c = no-counts _ _ _ (c .before .before .before .before .before .before .before .before .before .before .before .pre .0 .items-are) (sym (c .before .counts-equal .ensures) ∙ not-true _ (c .if3 .taken))
+returns-3 c =
+    no-counts _ _ _ (c .before .before .before .before .before .before .before .before .before .before .before .pre .0 .items-are)
+    (sym (c .before .counts-equal .ensures) ∙ not-true _ (c .if3 .taken))
 
 links-are-images-requires : tie.Need-links-are-images-requires
 links-are-images-requires c κs =
-    let s = c .before .before .before .before .before .before .before .before .before .before .before in
-    (s .pre .0, proposed _ _ (s .pre .1) (sym (c .before .before .before .before .before .before .before .items .ensures .0) ∙ c .before .before .before .before .before .before .if1 .left))
+    let s = c .before .before .before .before .before .before .before .before .before .before .before in (
+      s .pre .0,
+      proposed _ _ (s .pre .1)
+          (sym (c .before .before .before .before .before .before .before .items .ensures .0)
+          ∙ c .before .before .before .before .before .before .if1 .left),
+    )
 
 returns-4 : tie.Need-returns-4
-returns-4 c = no-links _ _ _ (c .before .before .before .before .before .before .before .before .before .before .before .before .before .pre .0 .items-are) (sym (c .before .links-are-images .ensures) ∙ not-true _ (c .if4 .taken))
+returns-4 c =
+    no-links _ _ _ (c .before .before .before .before .before .before .before .before .before .before .before .before .before .pre .0 .items-are)
+    (sym (c .before .links-are-images .ensures) ∙ not-true _ (c .if4 .taken))
 
 rows-equal-requires : tie.Need-rows-equal-requires
 rows-equal-requires c κs =
     let s = c .before .before .before .before .before .before .before .before .before .before .before .before .before in
-    let p = proposed _ _ (s .pre .1) (sym (c .before .before .before .before .before .before .before .before .before .items .ensures .0) ∙ c .before .before .before .before .before .before .before .before .if1 .left) in
+    let p =
+    proposed _ _ (s .pre .1)
+    (sym (c .before .before .before .before .before .before .before .before .before .items .ensures .0)
+    ∙ c .before .before .before .before .before .before .before .before .if1 .left) in
     (s .pre .0, p, c .before .before .before .before .before .before .before .near-cap .ensures, searched _ _ _ p (s .pre .2) (s .pre .3))
 
 returns-5 : tie.Need-returns-5
 returns-5 c =
     let s = c .before .before .before .before .before .before .before .before .before .before .before .before .before .before in
     c .rows-equal .ensures
-    ∙ only-rows _ _ _ (s .pre .0 .items-are) (sym (c .before .before .before .before .before .before .before .before .before .before .items .ensures .0) ∙ c .before .before .before .before .before .before .before .before .before .if1 .left)
+    ∙ only-rows _ _ _ (s .pre .0 .items-are)
+    (sym (c .before .before .before .before .before .before .before .before .before .before .items .ensures .0)
+    ∙ c .before .before .before .before .before .before .before .before .before .if1 .left)
     (sym (c .before .before .before .before .before .before .marks-equal .ensures) ∙ not-false _ (c .before .before .before .before .before .if2 .left))
     (sym (c .before .before .before .before .counts-equal .ensures) ∙ not-false _ (c .before .before .before .if3 .left))
     (sym (c .before .before .links-are-images .ensures) ∙ not-false _ (c .before .if4 .left))

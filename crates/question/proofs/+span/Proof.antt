@@ -102,7 +102,15 @@ span-returns-2 t c =
     (subst (Spans _ _) (c .enum-told3 .given .1) (c .before .before .span2 .ensures))
 
 span-span-requires-3 : (t : ℕ) → span-lts.Need-span-requires-3 (span-given t) (span-at t) span.Post
-span-span-requires-3 t c κs = (omega (arith, inside t (c .before .before .before .before .before), left t (c .before .before .before .before .before), s-bounds _ _ _ _ _ (first-operand t c)), tt)
+span-span-requires-3 t c κs = (
+  omega (
+    arith,
+    inside t (c .before .before .before .before .before),
+    left t (c .before .before .before .before .before),
+    s-bounds _ _ _ _ _ (first-operand t c),
+  ),
+  tt,
+)
 
 span-joined-requires : (t : ℕ) → span-lts.Need-joined-requires (span-given t) (span-at t) span.Post
 span-joined-requires t c κs = search needs
@@ -131,7 +139,8 @@ span-returns-4 t c = s-not _ _ _ (reads-as t (c .before .before .before) ∙ ap 
 span-returns-5 : (t : ℕ) → span-lts.Need-returns-5 (span-given t) (span-at t) span.Post
 span-returns-5 t c =
     rw (c .joined .ensures)
-    (s-two _ _ _ _ _ _ _ (two-of _ (c .before .before .before .before .before .before .match2 .keys3)) (reads-as t (c .before .before .before .before .before .before .before)) (first-operand t (c .before .before)) (c .before .span3 .ensures))
+    (s-two _ _ _ _ _ _ _ (two-of _ (c .before .before .before .before .before .before .match2 .keys3))
+    (reads-as t (c .before .before .before .before .before .before .before)) (first-operand t (c .before .before)) (c .before .span3 .ensures))
 
 span-returns-6 : (t : ℕ) → span-lts.Need-returns-6 (span-given t) (span-at t) span.Post
 span-returns-6 t c =

@@ -10,7 +10,8 @@ use Rattle.rows.proofs.run_from.Statement.{statement}
 use Rattle.rows.proofs.run_from.Tie as tie
 
 abbrev Inv-loop : tie.InvT-loop
-Inv-loop s k p mu v count₀ q₀ count q = (p < q) × (q ≤ k) × (v ≡ getD s p 0) × ((i : ℕ) → p ≤ i → i < q → getD s i 0 ≡ getD s p 0) × (count .cap ≡ mu) × (count .number ≡ cap mu (q - p))
+Inv-loop s k p mu v count₀ q₀ count q =
+    (p < q) × (q ≤ k) × (v ≡ getD s p 0) × ((i : ℕ) → p ≤ i → i < q → getD s i 0 ≡ getD s p 0) × (count .cap ≡ mu) × (count .number ≡ cap mu (q - p))
 
 abbrev μ-loop : tie.MeasureT-loop
 μ-loop s k p mu v count₀ q₀ count q = k - q

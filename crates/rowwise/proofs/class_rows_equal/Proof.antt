@@ -60,7 +60,9 @@ returns-2 : tie.Need-returns-2
 returns-2 c =
     let s = c .before .before .before .before .before .before .before .before .before in
     let e = c .before .before .before .before .before .rows .ensures .0 in
-    c .words-equal .ensures ∙ compared _ _ (s .pre .0) (s .args .class .0) _ _ (rw e at (c .before .before .before .find .ensures)) (rw e at (c .before .before .find2 .ensures)) _ _ _ (c .before .if1 .left)
+    c .words-equal .ensures
+    ∙ compared _ _ (s .pre .0) (s .args .class .0) _ _ (rw e at (c .before .before .before .find .ensures))
+    (rw e at (c .before .before .find2 .ensures)) _ _ _ (c .before .if1 .left)
 
 pub class-rows-equal-spec : {M : Type 1} → statement M
 class-rows-equal-spec =

@@ -23,7 +23,10 @@ minus-requires c κs = search needs
 
 returns : tie.Need-returns
 unfolding code
-returns c = let t = c .before in toZ-pos w32 {n = t .answer .given .0 .0} (omega (arith, short-length _ _ (t .answer .given .1) (t .before .before .pre))) ∙ sym (rw (t .answer .given .1))
+returns c =
+    let t = c .before in
+    toZ-pos w32 {n = t .answer .given .0 .0} (omega (arith, short-length _ _ (t .answer .given .1) (t .before .before .pre)))
+    ∙ sym (rw (t .answer .given .1))
 
 returns-2 : tie.Need-returns-2
 returns-2 c = toZ-ofZ {w = w32} {z = c .minus .result} (search needs) ∙ c .minus .ensures ∙ sym (rw (c .before .before .answer2 .given .1))

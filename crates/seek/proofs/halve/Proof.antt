@@ -42,8 +42,12 @@ loop-again c =
     let a = s .args in
     let m = l .low + (l .high - l .low) / 2 in
     let h : m < a .count = omega arith in
-    let k : m < length (take (a .count) (a .keys .now)) = rw (length-take-le (a .count) (a .keys .now) (omega arith)) h in
-    (omega arith, omega arith, parted-up (take (a .count) (a .keys .now)) (a .key) (l .low) (l .high) m (s .pre .3) (l .inv .2) k (rw (getD-take (a .count) (a .keys .now) m 0 h) (c .if1 .taken)))
+    let k : m < length (take (a .count) (a .keys .now)) = rw (length-take-le (a .count) (a .keys .now) (omega arith)) h in (
+      omega arith,
+      omega arith,
+      parted-up (take (a .count) (a .keys .now)) (a .key) (l .low) (l .high) m (s .pre .3) (l .inv .2) k
+          (rw (getD-take (a .count) (a .keys .now) m 0 h) (c .if1 .taken)),
+    )
 
 loop-less-2 : tie.Need-loop-less-2 Inv-loop μ-loop
 loop-less-2 c = omega arith
@@ -54,8 +58,12 @@ loop-again-2 c =
     let s = c .before .before .before .before in
     let a = s .args in
     let m = l .low + (l .high - l .low) / 2 in
-    let h : m < a .count = omega arith in
-    (omega arith, omega arith, parted-down (take (a .count) (a .keys .now)) (a .key) (l .low) (l .high) m (s .pre .3) (l .inv .2) (rw (getD-take (a .count) (a .keys .now) m 0 h) (c .if1 .left)))
+    let h : m < a .count = omega arith in (
+      omega arith,
+      omega arith,
+      parted-down (take (a .count) (a .keys .now)) (a .key) (l .low) (l .high) m (s .pre .3) (l .inv .2)
+          (rw (getD-take (a .count) (a .keys .now) m 0 h) (c .if1 .left)),
+    )
 
 returns : tie.Need-returns Inv-loop μ-loop
 returns c =

@@ -14,7 +14,9 @@ use Rattle.seek.proofs.mark_all.Statement.{statement}
 use Rattle.seek.proofs.mark_all.Tie as tie
 
 abbrev Inv-loop : tie.InvT-loop
-Inv-loop keys r starts k needed m marked₀ j₀ marked j = (j ≤ m) × (length marked ≡ length marked₀) × ((k : ℕ) → k < j → any (eqb (getD needed k 0)) (take r keys) ≡ true) × Marks marked keys r (take j needed)
+Inv-loop keys r starts k needed m marked₀ j₀ marked j =
+    (j ≤ m) × (length marked ≡ length marked₀) × ((k : ℕ) → k < j → any (eqb (getD needed k 0)) (take r keys) ≡ true) × Marks marked keys r
+    (take j needed)
 
 abbrev μ-loop : tie.MeasureT-loop
 μ-loop keys r starts k needed m marked₀ j₀ marked j = m - j
@@ -41,8 +43,11 @@ returns c =
     let at-mark = c .before .before .before in
     let at-loop = at-mark .before .before .before .before in
     let a = at-loop .before .before .before .before .before .args in
-    let l = at-loop .loop in
-    (first-no (λ k. any (eqb k) (take (a .r) (a .keys .now))) (a .needed .now) (a .m) (omega arith) (l .j) (omega arith) (sym (at-mark .mark .ensures .0) ∙ not-true _ (c .if1 .taken)), λ e. absurd (false≢true e))
+    let l = at-loop .loop in (
+      first-no (λ k. any (eqb k) (take (a .r) (a .keys .now))) (a .needed .now) (a .m) (omega arith) (l .j) (omega arith)
+          (sym (at-mark .mark .ensures .0) ∙ not-true _ (c .if1 .taken)),
+      λ e. absurd (false≢true e),
+    )
 
 add-j : tie.Need-add-j Inv-loop μ-loop
 add-j c = omega arith

@@ -47,8 +47,11 @@ loop-again c =
     let s = c .before .before .before .before in
     let a = s .args in
     let h : l .at < a .count = omega arith in
-    let k : l .at < length (take (a .count) (a .keys .now)) = rw (length-take-le (a .count) (a .keys .now) (s .pre .2)) h in
-    (omega arith, parted-up (take (a .count) (a .keys .now)) (a .key) (l .at) (a .to) (l .at) (s .pre .3) (l .inv .1) k (rw (getD-take (a .count) (a .keys .now) (l .at) 0 h) (c .if1 .left)))
+    let k : l .at < length (take (a .count) (a .keys .now)) = rw (length-take-le (a .count) (a .keys .now) (s .pre .2)) h in (
+      omega arith,
+      parted-up (take (a .count) (a .keys .now)) (a .key) (l .at) (a .to) (l .at) (s .pre .3) (l .inv .1) k
+          (rw (getD-take (a .count) (a .keys .now) (l .at) 0 h) (c .if1 .left)),
+    )
 
 returns-2 : tie.Need-returns-2 Inv-loop μ-loop
 returns-2 c =

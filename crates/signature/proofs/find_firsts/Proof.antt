@@ -13,7 +13,9 @@ use Rattle.signature.proofs.find_firsts.Statement.{statement}
 use Rattle.signature.proofs.find_firsts.Tie as tie
 
 abbrev Inv-loop : tie.InvT-loop
-Inv-loop groups starts rows n s firsts₀ r₀ p₀ firsts r p = (p ≤ n) × (length firsts ≡ length firsts₀) × Run s r p × ((q : ℕ) → q < p → getD firsts (item s q) 0 ≡ first (alikeSig groups starts rows) (item s q))
+Inv-loop groups starts rows n s firsts₀ r₀ p₀ firsts r p =
+    (p ≤ n) × (length firsts ≡ length firsts₀) × Run s r p ×
+    ((q : ℕ) → q < p → getD firsts (item s q) 0 ≡ first (alikeSig groups starts rows) (item s q))
 
 abbrev μ-loop : tie.MeasureT-loop
 μ-loop groups starts rows n s firsts₀ r₀ p₀ firsts r p = n - p
@@ -61,13 +63,21 @@ mul-firsts : tie.Need-mul-firsts Inv-loop μ-loop
 mul-firsts c =
     let at-loop = c .before .before .before .before .before .before in
     let s = at-loop .before .before .before .before .before .before in
-    omega (arith, item-small (hashSig (s .args .groups .now) (s .args .starts .now) (s .args .rows .now)) (s .args .n) (s .args .s .now) (s .pre .0 .few) (s .pre .1) (at-loop .loop .p) (omega arith))
+    omega (
+      arith,
+      item-small (hashSig (s .args .groups .now) (s .args .starts .now) (s .args .rows .now)) (s .args .n) (s .args .s .now) (s .pre .0 .few)
+          (s .pre .1) (at-loop .loop .p) (omega arith),
+    )
 
 slice-write-firsts : tie.Need-slice-write-firsts Inv-loop μ-loop
 slice-write-firsts c =
     let at-loop = c .before .before .before .before .before .before in
     let s = at-loop .before .before .before .before .before .before in
-    omega (arith, item-small (hashSig (s .args .groups .now) (s .args .starts .now) (s .args .rows .now)) (s .args .n) (s .args .s .now) (s .pre .0 .few) (s .pre .1) (at-loop .loop .p) (omega arith))
+    omega (
+      arith,
+      item-small (hashSig (s .args .groups .now) (s .args .starts .now) (s .args .rows .now)) (s .args .n) (s .args .s .now) (s .pre .0 .few)
+          (s .pre .1) (at-loop .loop .p) (omega arith),
+    )
 
 add-p : tie.Need-add-p Inv-loop μ-loop
 add-p c = omega arith
@@ -92,7 +102,9 @@ loop-again c =
       simp length-set (l .inv .1),
       t .0,
       store-next (first (alikeSig (a .groups .now) (a .starts .now) (a .rows .now))) (a .s .now) (l .firsts) (l .p) _ (l .inv .3) (omega arith)
-          (at-leader .leader .ensures .0 ∙ led (a .groups .now) (a .starts .now) (a .rows .now) (a .n) (a .s .now) (at-if1 .if1 .r) (l .p) (s .pre .0 .few) (s .pre .1) k (t .0) (t .1) (t .2)),
+          (at-leader .leader .ensures .0
+          ∙ led (a .groups .now) (a .starts .now) (a .rows .now) (a .n) (a .s .now) (at-if1 .if1 .r) (l .p) (s .pre .0 .few) (s .pre .1) k (t .0) (t .1)
+          (t .2)),
     )
 
 same-length : tie.Need-same-length Inv-loop μ-loop
@@ -105,7 +117,8 @@ returns c =
     let a = s .args in
     let l = at-loop .loop in
     let e : l .p ≡ a .n = omega arith in
-    all-met (hashSig (a .groups .now) (a .starts .now) (a .rows .now)) (first (alikeSig (a .groups .now) (a .starts .now) (a .rows .now))) (a .n) (a .s .now) (l .firsts) (s .pre .0 .few) (s .pre .1) (λ q h. l .inv .3 q (omega arith))
+    all-met (hashSig (a .groups .now) (a .starts .now) (a .rows .now)) (first (alikeSig (a .groups .now) (a .starts .now) (a .rows .now))) (a .n)
+    (a .s .now) (l .firsts) (s .pre .0 .few) (s .pre .1) (λ q h. l .inv .3 q (omega arith))
 
 pub find-firsts-spec : {M : Type 1} → statement M
 find-firsts-spec =

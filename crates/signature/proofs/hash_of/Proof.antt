@@ -36,7 +36,12 @@ cast-m : tie.Need-cast-m Inv-loop μ-loop
 cast-m c = omega (arith, c .shared-slice-known5 .given (c .before .before .before .before .before .args .x + 1))
 
 sub-m : tie.Need-sub-m Inv-loop μ-loop
-sub-m c = omega (arith, c .before .before .before .before .before .pre .0 .rise (c .before .before .before .before .before .args .x) (omega (arith, c .before .before .before .before .before .pre)))
+sub-m c =
+    omega (
+      arith,
+      c .before .before .before .before .before .pre .0 .rise (c .before .before .before .before .before .args .x)
+          (omega (arith, c .before .before .before .before .before .pre)),
+    )
 
 mul-stir : tie.Need-mul-stir Inv-loop μ-loop
 mul-stir c = omega arith
@@ -94,7 +99,10 @@ loop-again c =
       l .inv .1,
       l .inv .2,
       c .stir2 .ensures .1,
-      c .stir2 .ensures .0 ∙ rw (l .inv .4) (hashed-next (a .starts .now) (a .rows .now) (a .x) (mix 0 (getD (a .groups .now) (a .x) 0)) (l .j) _ (word-at (a .starts .now) (a .rows .now) (a .x) (l .j) _ (l .inv .2))),
+      c .stir2 .ensures .0
+          ∙ rw (l .inv .4)
+          (hashed-next (a .starts .now) (a .rows .now) (a .x) (mix 0 (getD (a .groups .now) (a .x) 0)) (l .j) _
+          (word-at (a .starts .now) (a .rows .now) (a .x) (l .j) _ (l .inv .2))),
     )
 
 returns : tie.Need-returns Inv-loop μ-loop

@@ -11,7 +11,9 @@ use Rattle.signature.proofs.leader.Statement.{statement}
 use Rattle.signature.proofs.leader.Tie as tie
 
 abbrev Inv-loop : tie.InvT-loop
-Inv-loop groups starts rows n s r p x q₀ q = (r ≤ q) × (q ≤ p) × (x ≡ item s p) × (seek (λ q. alikeSig groups starts rows (item s q) (item s p)) q (p - q) ≡ seek (λ q. alikeSig groups starts rows (item s q) (item s p)) r (p - r))
+Inv-loop groups starts rows n s r p x q₀ q =
+    (r ≤ q) × (q ≤ p) × (x ≡ item s p) ×
+    (seek (λ q. alikeSig groups starts rows (item s q) (item s p)) q (p - q) ≡ seek (λ q. alikeSig groups starts rows (item s q) (item s p)) r (p - r))
 
 abbrev μ-loop : tie.MeasureT-loop
 μ-loop groups starts rows n s r p x q₀ q = p - q

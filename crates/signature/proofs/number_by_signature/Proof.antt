@@ -32,8 +32,13 @@ find-firsts-requires c κs =
     let s = at-put-hashes .before .before .before .before .before .before .before .before in
     let a = s .args in
     let like = alikeSig (a .groups .now) (a .starts .now) (a .rows .now) in
-    let eq = sig-equivalence (a .groups .now) (a .starts .now) (a .rows .now) in
-    (s .pre .0, keys-listed (hashSig (a .groups .now) (a .starts .now) (a .rows .now)) (a .n) (a .a .now) _ _ (at-put-hashes .put-hashes .ensures) (at-sort .sort .ensures), omega (arith, s .pre), omega (arith, s .pre))
+    let eq = sig-equivalence (a .groups .now) (a .starts .now) (a .rows .now) in (
+      s .pre .0,
+      keys-listed (hashSig (a .groups .now) (a .starts .now) (a .rows .now)) (a .n) (a .a .now) _ _ (at-put-hashes .put-hashes .ensures)
+          (at-sort .sort .ensures),
+      omega (arith, s .pre),
+      omega (arith, s .pre),
+    )
 
 slice-aggregate-number-firsts : tie.Need-slice-aggregate-number-firsts
 slice-aggregate-number-firsts c = search needs
@@ -41,7 +46,8 @@ slice-aggregate-number-firsts c = search needs
 number-firsts-requires : tie.Need-number-firsts-requires
 number-firsts-requires c κs =
     let at-find-firsts = c .before .before .before in
-    let s = at-find-firsts .before .before .before .before .before .before .before .before .before .before .before .before .before .before .before .before .before .before .before .before in
+    let s =
+    at-find-firsts .before .before .before .before .before .before .before .before .before .before .before .before .before .before .before .before .before .before .before .before in
     let a = s .args in
     let like = alikeSig (a .groups .now) (a .starts .now) (a .rows .now) in
     let eq = sig-equivalence (a .groups .now) (a .starts .now) (a .rows .now) in
@@ -60,7 +66,8 @@ returns : tie.Need-returns
 returns c =
     let at-number-firsts = c .before .before in
     let at-find-firsts = at-number-firsts .before .before .before .before in
-    let s = at-find-firsts .before .before .before .before .before .before .before .before .before .before .before .before .before .before .before .before .before .before .before .before in
+    let s =
+    at-find-firsts .before .before .before .before .before .before .before .before .before .before .before .before .before .before .before .before .before .before .before .before in
     let a = s .args in
     let like = alikeSig (a .groups .now) (a .starts .now) (a .rows .now) in
     let eq = sig-equivalence (a .groups .now) (a .starts .now) (a .rows .now) in

@@ -63,7 +63,9 @@ returns c =
     let e = at-sort .sort .ensures in
     let r = at-put-rows .put-rows .ensures in (
       rows-written (a .reg .now) (a .n) (a .m) (s .pre .0) (a .cs .now) (s .pre .1) (a .mu) _ _ _ _ w v e (omega (arith, s .pre)) _ _ _ (r .0) (r .1),
-      r .2 ∙ ap (λ (l : List ℕ). l ++ drop (a .n + 1) (a .starts .now)) (starts-written (a .reg .now) (a .n) (a .m) (s .pre .0) (a .cs .now) (s .pre .1) (a .mu) _ _ _ _ w v e (omega (arith, s .pre))),
+      r .2
+          ∙ ap (λ (l : List ℕ). l ++ drop (a .n + 1) (a .starts .now))
+          (starts-written (a .reg .now) (a .n) (a .m) (s .pre .0) (a .cs .now) (s .pre .1) (a .mu) _ _ _ _ w v e (omega (arith, s .pre))),
     )
 
 pub item-rows-spec : {M : Type 1} → statement M

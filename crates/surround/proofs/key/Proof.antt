@@ -60,7 +60,9 @@ add-result-2 c =
 
 returns : tie.Need-returns
 returns c =
-    key-made _ _ _ _ _ _ _ (c .before .before .before .before .before .index .ensures ∙ c .before .before .before .before .before .before .near .ensures .0) (c .before .before .before .way-number .ensures .0) (c .before .before .before .before .label .ensures .0)
+    key-made _ _ _ _ _ _ _
+    (c .before .before .before .before .before .index .ensures ∙ c .before .before .before .before .before .before .near .ensures .0)
+    (c .before .before .before .way-number .ensures .0) (c .before .before .before .before .label .ensures .0)
     (c .before .index2 .ensures ∙ c .before .before .far .ensures .0)
 
 pub key-spec : {M : Type 1} → statement M

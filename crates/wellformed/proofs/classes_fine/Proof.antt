@@ -43,10 +43,16 @@ class-fine-requires : tie.Need-class-fine-requires Inv-loop μ-loop
 class-fine-requires c κs = (c .before .before .before .before .before .before .pre, omega (arith, c .loop-test .taken, c .before .before .before .before .classes .ensures))
 
 returns-2 : tie.Need-returns-2 Inv-loop μ-loop
-returns-2 c = class-out _ _ (omega (arith, c .before .before .loop-test .taken, c .before .before .before .before .before .before .classes .ensures)) (sym (c .before .class-fine .ensures) ∙ not-true _ (c .if2 .taken))
+returns-2 c =
+    class-out _ _ (omega (arith, c .before .before .loop-test .taken, c .before .before .before .before .before .before .classes .ensures))
+    (sym (c .before .class-fine .ensures) ∙ not-true _ (c .if2 .taken))
 
 group-requires : tie.Need-group-requires Inv-loop μ-loop
-group-requires c κs = record { exact-is = c .before .before .before .before .before .before .before .before .pre .exact-is; class-is = omega (arith, c .before .before .loop-test .taken, c .before .before .before .before .before .before .classes .ensures) }
+group-requires c κs =
+    record {
+      exact-is = c .before .before .before .before .before .before .before .before .pre .exact-is;
+      class-is = omega (arith, c .before .before .loop-test .taken, c .before .before .before .before .before .before .classes .ensures);
+    }
 
 index-requires : tie.Need-index-requires Inv-loop μ-loop
 index-requires c κs = search needs
@@ -54,7 +60,16 @@ index-requires c κs = search needs
 array-write-used : tie.Need-array-write-used Inv-loop μ-loop
 array-write-used c =
     let g = class-group _ _ (sym (c .before .before .before .class-fine .ensures) ∙ not-false _ (c .before .before .if2 .left)) in
-    omega (arith, g, c .index .ensures, c .before .group .ensures, c .before .before .before .before .before .before .if1 .left, c .before .before .before .before .before .before .before .groups .ensures, c .before .before .before .before .before .before .before .before .classes .ensures, c .before .before .before .before .before .before .before .before .before .before .pre .few-classes)
+    omega (
+      arith,
+      g,
+      c .index .ensures,
+      c .before .group .ensures,
+      c .before .before .before .before .before .before .if1 .left,
+      c .before .before .before .before .before .before .before .groups .ensures,
+      c .before .before .before .before .before .before .before .before .classes .ensures,
+      c .before .before .before .before .before .before .before .before .before .before .pre .few-classes,
+    )
 
 add-k : tie.Need-add-k Inv-loop μ-loop
 add-k c = omega arith
@@ -69,7 +84,18 @@ loop-again c =
     let g = class-group _ _ fine in (
       omega arith,
       below-more _ _ (l .1) fine,
-      one-marked _ _ _ _ (c .index .ensures ∙ c .before .group .ensures) (omega (arith, g, c .index .ensures, c .before .group .ensures, c .before .before .before .before .before .before .if1 .left, c .before .before .before .before .before .before .before .groups .ensures, c .before .before .before .before .before .before .before .before .classes .ensures, c .before .before .before .before .before .before .before .before .before .before .pre .few-classes, l .3)) (l .2),
+      one-marked _ _ _ _ (c .index .ensures ∙ c .before .group .ensures)
+          (omega (
+            arith,
+            g,
+            c .index .ensures,
+            c .before .group .ensures,
+            c .before .before .before .before .before .before .if1 .left,
+            c .before .before .before .before .before .before .before .groups .ensures,
+            c .before .before .before .before .before .before .before .before .classes .ensures,
+            c .before .before .before .before .before .before .before .before .before .before .pre .few-classes,
+            l .3,
+          )) (l .2),
       simp length-set (l .3),
     )
 
@@ -77,15 +103,30 @@ slice-aggregate-all-marked : tie.Need-slice-aggregate-all-marked Inv-loop μ-loo
 slice-aggregate-all-marked c = sym (c .before .before .loop .inv .3)
 
 all-marked-requires : tie.Need-all-marked-requires Inv-loop μ-loop
-all-marked-requires c κs = omega (arith, c .before .before .loop .inv .3, c .before .before .before .if1 .left, c .before .before .before .before .groups .ensures, c .before .before .before .before .before .classes .ensures, c .before .before .before .before .before .before .before .pre .few-classes)
+all-marked-requires c κs =
+    omega (
+      arith,
+      c .before .before .loop .inv .3,
+      c .before .before .before .if1 .left,
+      c .before .before .before .before .groups .ensures,
+      c .before .before .before .before .before .classes .ensures,
+      c .before .before .before .before .before .before .before .pre .few-classes,
+    )
 
 returns-3 : tie.Need-returns-3 Inv-loop μ-loop
 returns-3 c =
     let l = c .before .before .before .loop .inv in
     let n = c .before .before .before .before .before .before .classes .ensures in
     c .all-marked .ensures
-    ∙ classes-by (summaryIn (c .before .before .before .before .before .before .before .before .args .s .now)) _ _ _ (c .before .before .before .before .before .groups .ensures) (omega (arith, c .before .before .loop-test .left, n))
-    (omega (arith, c .before .before .before .before .if1 .left, c .before .before .before .before .before .groups .ensures, n, c .before .before .before .before .before .before .before .before .pre .few-classes)) (l .1) (l .2)
+    ∙ classes-by (summaryIn (c .before .before .before .before .before .before .before .before .args .s .now)) _ _ _
+    (c .before .before .before .before .before .groups .ensures) (omega (arith, c .before .before .loop-test .left, n))
+    (omega (
+      arith,
+      c .before .before .before .before .if1 .left,
+      c .before .before .before .before .before .groups .ensures,
+      n,
+      c .before .before .before .before .before .before .before .before .pre .few-classes,
+    )) (l .1) (l .2)
 
 pub classes-fine-spec : {M : Type 1} → statement M
 classes-fine-spec =

@@ -37,14 +37,28 @@ in-range-requires c κs = search needs
 
 returns-3 : tie.Need-returns-3
 returns-3 c =
-    let exact = sym (c .before .before .before .before .before .before .before .before .exact .ensures) ∙ not-false _ (c .before .before .before .before .before .before .before .if1 .left) in
-    (sym (no-range _ (ranged (summaryIn (c .before .before .before .before .before .before .before .before .before .before .before .args .s .now)) (c .before .before .before .before .level .ensures) (c .before .before .before .near-cap .ensures) (c .before .before .class-cap .ensures) (sym (c .before .in-range .ensures) ∙ not-true _ (c .if3 .taken)))) ∙ when-exact _ exact, keyed-no _ _)
+    let exact =
+    sym (c .before .before .before .before .before .before .before .before .exact .ensures)
+    ∙ not-false _ (c .before .before .before .before .before .before .before .if1 .left) in (
+      sym
+          (no-range _
+          (ranged (summaryIn (c .before .before .before .before .before .before .before .before .before .before .before .args .s .now))
+          (c .before .before .before .before .level .ensures) (c .before .before .before .near-cap .ensures) (c .before .before .class-cap .ensures)
+          (sym (c .before .in-range .ensures) ∙ not-true _ (c .if3 .taken))))
+          ∙ when-exact _ exact,
+      keyed-no _ _,
+    )
 
 parts-fine-requires : tie.Need-parts-fine-requires
 parts-fine-requires c κs =
-    let exact = sym (c .before .before .before .before .before .before .before .before .before .exact .ensures) ∙ not-false _ (c .before .before .before .before .before .before .before .before .if1 .left) in
+    let exact =
+    sym (c .before .before .before .before .before .before .before .before .before .exact .ensures)
+    ∙ not-false _ (c .before .before .before .before .before .before .before .before .if1 .left) in
     let few = sym (c .before .before .before .before .before .before .before .few .ensures) ∙ not-false _ (c .before .before .before .before .before .before .if2 .left) in
-    let range = ranged (summaryIn (c .before .before .before .before .before .before .before .before .before .before .before .before .args .s .now)) (c .before .before .before .before .before .level .ensures) (c .before .before .before .before .near-cap .ensures) (c .before .before .before .class-cap .ensures) (sym (c .before .before .in-range .ensures) ∙ not-false _ (c .before .if3 .left)) in
+    let range =
+    ranged (summaryIn (c .before .before .before .before .before .before .before .before .before .before .before .before .args .s .now))
+    (c .before .before .before .before .before .level .ensures) (c .before .before .before .before .near-cap .ensures)
+    (c .before .before .before .class-cap .ensures) (sym (c .before .before .in-range .ensures) ∙ not-false _ (c .before .if3 .left)) in
     (sized-of _ exact few range, c .before .before .before .before .before .before .before .before .before .before .before .before .pre, range, few)
 
 same-length : tie.Need-same-length
@@ -52,7 +66,9 @@ same-length c = search needs
 
 returns-4 : tie.Need-returns-4
 returns-4 c =
-    let exact = sym (c .before .before .before .before .before .before .before .before .before .before .before .before .exact .ensures) ∙ not-false _ (c .before .before .before .before .before .before .before .before .before .before .before .if1 .left) in
+    let exact =
+    sym (c .before .before .before .before .before .before .before .before .before .before .before .before .exact .ensures)
+    ∙ not-false _ (c .before .before .before .before .before .before .before .before .before .before .before .if1 .left) in
     (c .before .before .parts-fine .ensures .0 ∙ when-exact _ exact, c .before .before .parts-fine .ensures .1)
 
 pub judge-spec : {M : Type 1} → statement M

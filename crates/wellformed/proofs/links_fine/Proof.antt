@@ -23,7 +23,10 @@ fine-requires : tie.Need-fine-requires
 fine-requires c κs = room-for-links _ _ _ (c .before .before .before .before .pre .exact-is) (c .before .before .two .ensures) (c .before .links .ensures .0)
 
 returns : tie.Need-returns
-returns c = c .fine .ensures ∙ links-judged _ _ _ _ (c .before .before .before .before .before .pre .exact-is) (c .before .before .before .two .ensures) (c .before .before .links .ensures .0) (c .before .classes .ensures .0)
+returns c =
+    c .fine .ensures
+    ∙ links-judged _ _ _ _ (c .before .before .before .before .before .pre .exact-is) (c .before .before .before .two .ensures)
+    (c .before .before .links .ensures .0) (c .before .classes .ensures .0)
 
 pub links-fine-spec : {M : Type 1} → statement M
 links-fine-spec =

@@ -43,12 +43,20 @@ returns-4 c = (sym (no-map _ (sym (c .before .map-fine .ensures) ∙ not-true _ 
 rows-match-requires : tie.Need-rows-match-requires
 rows-match-requires c κs =
     let s = c .before .before .before .before .before .before .before .before .before .before .before .before .before .before .pre in
-    let classes = sym (c .before .before .before .before .before .before .before .before .before .before .before .classes-fine .ensures) ∙ not-false _ (c .before .before .before .before .before .before .before .before .before .before .if1 .left) in
+    let classes =
+    sym (c .before .before .before .before .before .before .before .before .before .before .before .classes-fine .ensures)
+    ∙ not-false _ (c .before .before .before .before .before .before .before .before .before .before .if1 .left) in
     let yes = not-false _ (c .before .before .before .before .before .if2 .left) in
     let rows = sym (c .before .before .before .before .before .before .before .before .rows-fine .ensures .0) ∙ yes in
     let links = sym (c .before .before .before .before .links-fine .ensures) ∙ not-false _ (c .before .before .before .if3 .left) in
-    let map = sym (c .before .before .map-fine .ensures) ∙ not-false _ (c .before .if4 .left) in
-    (s .0, are-numbers _ classes rows links map, rows-ascend _ rows, keyed-as _ _ _ yes (c .before .before .before .before .before .before .before .before .rows-fine .ensures .1), groups-low _ classes (s .0 .few-classes), search needs)
+    let map = sym (c .before .before .map-fine .ensures) ∙ not-false _ (c .before .if4 .left) in (
+      s .0,
+      are-numbers _ classes rows links map,
+      rows-ascend _ rows,
+      keyed-as _ _ _ yes (c .before .before .before .before .before .before .before .before .rows-fine .ensures .1),
+      groups-low _ classes (s .0 .few-classes),
+      search needs,
+    )
 
 same-length-4 : tie.Need-same-length-4
 same-length-4 c = search needs
@@ -56,12 +64,16 @@ same-length-4 c = search needs
 returns-5 : tie.Need-returns-5
 returns-5 c =
     let s = c .before .before .before .before .before .before .before .before .before .before .before .before .before .before .before .pre in
-    let classes = sym (c .before .before .before .before .before .before .before .before .before .before .before .before .classes-fine .ensures) ∙ not-false _ (c .before .before .before .before .before .before .before .before .before .before .before .if1 .left) in
+    let classes =
+    sym (c .before .before .before .before .before .before .before .before .before .before .before .before .classes-fine .ensures)
+    ∙ not-false _ (c .before .before .before .before .before .before .before .before .before .before .before .if1 .left) in
     let yes = not-false _ (c .before .before .before .before .before .before .if2 .left) in
     let rows = sym (c .before .before .before .before .before .before .before .before .before .rows-fine .ensures .0) ∙ yes in
     let links = sym (c .before .before .before .before .before .links-fine .ensures) ∙ not-false _ (c .before .before .before .before .if3 .left) in
-    let map = sym (c .before .before .before .map-fine .ensures) ∙ not-false _ (c .before .before .if4 .left) in
-    (c .rows-match .ensures ∙ by-match _ classes rows links map (s .2) (s .3), keyed-as _ _ _ yes (c .before .before .before .before .before .before .before .before .before .rows-fine .ensures .1))
+    let map = sym (c .before .before .before .map-fine .ensures) ∙ not-false _ (c .before .before .if4 .left) in (
+      c .rows-match .ensures ∙ by-match _ classes rows links map (s .2) (s .3),
+      keyed-as _ _ _ yes (c .before .before .before .before .before .before .before .before .before .rows-fine .ensures .1),
+    )
 
 pub parts-fine-spec : {M : Type 1} → statement M
 parts-fine-spec =

@@ -18,7 +18,9 @@ use Rattle.wellformed.proofs.rows_fine.Statement.{statement}
 use Rattle.wellformed.proofs.rows_fine.Tie as tie
 
 abbrev Inv-loop : tie.InvT-loop
-Inv-loop s keys₀ r at c g cap least₀ j₀ keys least j = (j ≤ r) × (least ≡ past (key (summaryIn s)) j) × ((i : ℕ) → i < j → rowRises (summaryIn s) i ≡ true) × ((i : ℕ) → i < j → getD keys i 0 ≡ key (summaryIn s) i) × (length keys ≡ length keys₀)
+Inv-loop s keys₀ r at c g cap least₀ j₀ keys least j =
+    (j ≤ r) × (least ≡ past (key (summaryIn s)) j) × ((i : ℕ) → i < j → rowRises (summaryIn s) i ≡ true) ×
+    ((i : ℕ) → i < j → getD keys i 0 ≡ key (summaryIn s) i) × (length keys ≡ length keys₀)
 
 abbrev μ-loop : tie.MeasureT-loop
 μ-loop s keys₀ r at c g cap least₀ j₀ keys least j = r - j
@@ -71,7 +73,9 @@ returns c =
     let n = c .before .before .before .before .before .before .before .before .rows in
     let at = c .before .before .before .before .before .before .before .two in
     let h : HasRow b (l .j) = record { exact-is = s .pre .0 .exact-is; row-is = omega (arith, c .before .before .loop-test .taken, n .ensures) } in
-    let test = row-read b (l .j) (at .result) _ h (at .ensures) refl _ _ _ (c .before .before .before .before .before .before .classes .ensures .0) (c .before .before .before .before .before .groups .ensures) (c .before .before .before .before .near-cap .ensures) in
+    let test =
+    row-read b (l .j) (at .result) _ h (at .ensures) refl _ _ _ (c .before .before .before .before .before .before .classes .ensures .0)
+    (c .before .before .before .before .before .groups .ensures) (c .before .before .before .before .near-cap .ensures) in
     (row-out _ _ (h .row-is) (sym test ∙ sym (c .before .row-fine .ensures) ∙ not-true _ (c .if1 .taken)), keyed-no _ _)
 
 row-key-requires : tie.Need-row-key-requires Inv-loop μ-loop
@@ -95,9 +99,16 @@ returns-2 c =
     let n = c .before .before .before .before .before .before .before .before .before .before .rows in
     let at = c .before .before .before .before .before .before .before .before .before .two in
     let h : HasRow b (l .j) = record { exact-is = s .pre .0 .exact-is; row-is = omega (arith, c .before .before .before .before .loop-test .taken, n .ensures) } in
-    let test = row-read b (l .j) (at .result) _ h (at .ensures) refl _ _ _ (c .before .before .before .before .before .before .before .before .classes .ensures .0) (c .before .before .before .before .before .before .before .groups .ensures) (c .before .before .before .before .before .before .near-cap .ensures) in
-    let e = c .before .row-key .ensures .0 ∙ key-read b (l .j) (at .result) _ h (at .ensures) refl in
-    (row-falls _ _ (h .row-is) (sym test ∙ sym (c .before .before .before .row-fine .ensures) ∙ not-false _ (c .before .before .if1 .left)) (omega (arith, c .if2 .taken, e, l .inv .1)), keyed-no _ _)
+    let test =
+    row-read b (l .j) (at .result) _ h (at .ensures) refl _ _ _
+    (c .before .before .before .before .before .before .before .before .classes .ensures .0)
+    (c .before .before .before .before .before .before .before .groups .ensures)
+    (c .before .before .before .before .before .before .near-cap .ensures) in
+    let e = c .before .row-key .ensures .0 ∙ key-read b (l .j) (at .result) _ h (at .ensures) refl in (
+      row-falls _ _ (h .row-is) (sym test ∙ sym (c .before .before .before .row-fine .ensures) ∙ not-false _ (c .before .before .if1 .left))
+          (omega (arith, c .if2 .taken, e, l .inv .1)),
+      keyed-no _ _,
+    )
 
 mul-keys : tie.Need-mul-keys Inv-loop μ-loop
 mul-keys c = search needs
@@ -126,13 +137,18 @@ loop-again c =
     let n = c .before .before .before .before .before .before .before .before .before .before .rows in
     let at = c .before .before .before .before .before .before .before .before .before .two in
     let h : HasRow b (l .j) = record { exact-is = s .pre .0 .exact-is; row-is = omega (arith, c .before .before .before .before .loop-test .taken, n .ensures) } in
-    let test = row-read b (l .j) (at .result) _ h (at .ensures) refl _ _ _ (c .before .before .before .before .before .before .before .before .classes .ensures .0) (c .before .before .before .before .before .before .before .groups .ensures) (c .before .before .before .before .before .before .near-cap .ensures) in
+    let test =
+    row-read b (l .j) (at .result) _ h (at .ensures) refl _ _ _
+    (c .before .before .before .before .before .before .before .before .classes .ensures .0)
+    (c .before .before .before .before .before .before .before .groups .ensures)
+    (c .before .before .before .before .before .before .near-cap .ensures) in
     let e = c .before .row-key .ensures .0 ∙ key-read b (l .j) (at .result) _ h (at .ensures) refl in
     let u = sym test ∙ sym (c .before .before .before .row-fine .ensures) ∙ not-false _ (c .before .before .if1 .left) in (
       omega arith,
       past-next _ _ _ e,
       below-more _ _ (l .inv .2) (row-rises _ _ u (omega (arith, c .if2 .left, e, l .inv .1))),
-      key-set (summaryIn b) (l .keys) (l .j) _ (omega (arith, c .before .before .before .before .loop-test .taken, n .ensures, s .pre .0 .few-rows, s .pre .1, l .inv .4)) e (l .inv .3),
+      key-set (summaryIn b) (l .keys) (l .j) _
+          (omega (arith, c .before .before .before .before .loop-test .taken, n .ensures, s .pre .0 .few-rows, s .pre .1, l .inv .4)) e (l .inv .3),
       simp length-set (l .inv .4),
     )
 
