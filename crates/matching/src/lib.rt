@@ -6,19 +6,17 @@ ghost use mathlib.Core.Path.{_≡_};
 ghost use mathlib.Core.Bool.{true};
 ghost use Prim.Native.Nat.{_+_, _*_, _≤_, _<_};
 ghost use lib.ListN.{length};
-ghost use Rattle.meaning.specs.Count.{ascends};
 ghost use Rattle.meaning.specs.Summary.{classOf};
-ghost use Rattle.meaning.specs.WellFormed.{rowKey, numbers, rowsMatch};
+ghost use Rattle.meaning.specs.WellFormed.{numbers, rowsMatch};
 ghost use Rattle.meaning.specs.SummaryFile.{summaryIn};
 ghost use Rattle.reader.specs.Sized.{HasClass};
 ghost use Rattle.lists.specs.Writes.{Writes};
 ghost use Rattle.header.specs.Limits.{Sized};
-ghost use Rattle.matching.specs.Keys.{askedKey, Keyed};
+ghost use Rattle.matching.specs.Keys.{askedKey, Ordered};
 
 // "a row stands for a class, direction, label and group exactly when a class link joins that class to some class of the group that way".
 pub fn rows_match(s: &[u8], keys: &[u64]) -> bool
-    requires { ⌜ Sized (now s) × (numbers (summaryIn (now s)) ≡ true) × (ascends rowKey (summaryIn (now s) .rows) ≡ true)
-        × Keyed true (summaryIn (now s)) (now keys) × (summaryIn (now s) .groups ≤ 1024) × (length (now keys) ≡ 4096) ⌝ }
+    requires { ⌜ Ordered (now s) (now keys) ⌝ }
     ensures { λ r. ⌜ r ≡ rowsMatch (summaryIn (now (s .entry))) ⌝ }
 {
     if reader::links(s) <= 64 {
@@ -31,8 +29,7 @@ pub fn rows_match(s: &[u8], keys: &[u64]) -> bool
 
 // The same, with room lent for the keys that are asked for: where they are few, little has to be cleared.
 fn matched(s: &[u8], keys: &[u64], asked: &mut [u64]) -> bool
-    requires { ⌜ Sized (now s) × (numbers (summaryIn (now s)) ≡ true) × (ascends rowKey (summaryIn (now s) .rows) ≡ true)
-        × Keyed true (summaryIn (now s)) (now keys) × (summaryIn (now s) .groups ≤ 1024) × (length (now keys) ≡ 4096)
+    requires { ⌜ Ordered (now s) (now keys)
         × (2 * length (summaryIn (now s) .links) ≤ length (now asked)) × (length (now asked) ≤ 4096) ⌝ }
     ensures { λ r. ⌜ r ≡ rowsMatch (summaryIn (now (s .entry))) ⌝ }
 {

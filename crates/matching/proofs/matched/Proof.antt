@@ -26,16 +26,16 @@ same-members-requires c κs =
     let s = c .before .before .before .before .before .before .before .before .before .before .before .before .before .before .pre in
     let n = c .before .rows .ensures in
     let e = c .before .before .before .before .before .before .before .before .before .before .links .ensures in (
-      omega (arith, s .0 .few-rows, s .5, n),
-      omega (arith, s .0 .few-rows, n),
+      omega (arith, s .0 .sized .few-rows, s .0 .long, n),
+      omega (arith, s .0 .sized .few-rows, n),
       omega (
         arith,
-        s .6,
+        s .1,
         e,
         c .before .before .before .before .before .before .before .before .put-asked .ensures .long,
         c .before .before .before .before .put-asked2 .ensures .long,
       ),
-      keyed-rises _ _ _ (n .0) (s .3) (s .2),
+      keyed-rises _ _ _ (n .0) (s .0 .keyed) (s .0 .rising),
     )
 
 same-length : tie.Need-same-length
@@ -46,7 +46,7 @@ returns c =
     let s = c .before .before .before .before .before .before .before .before .before .before .before .before .before .before .before .pre in
     let e = c .before .before .before .before .before .before .before .before .before .before .before .links .ensures in
     c .same-members .ensures
-    ∙ match-by _ (s .1) (s .4) _ _ _ _ _ (c .before .before .rows .ensures .0) (s .3) _ (e .0) (omega (arith, s .6, e))
+    ∙ match-by _ (s .0 .in-range) (s .0 .few-groups) _ _ _ _ _ (c .before .before .rows .ensures .0) (s .0 .keyed) _ (e .0) (omega (arith, s .1, e))
     (c .before .before .before .before .before .before .before .before .before .put-asked .ensures)
     (c .before .before .before .before .before .put-asked2 .ensures)
 

@@ -5,7 +5,7 @@ use Rattle.matching.proofs.rows_match.Statement.{statement}
 use Rattle.matching.proofs.rows_match.Tie as tie
 
 links-requires : tie.Need-links-requires
-links-requires c κs = c .before .before .pre .0 .exact-is
+links-requires c κs = c .before .before .pre .sized .exact-is
 
 slice-aggregate-matched : tie.Need-slice-aggregate-matched
 slice-aggregate-matched c = search needs
@@ -13,7 +13,7 @@ slice-aggregate-matched c = search needs
 matched-requires : tie.Need-matched-requires
 matched-requires c κs =
     let s = c .before .before .before .before .before .pre in
-    (s .0, s .1, s .2, s .3, s .4, s .5, omega (arith, c .before .if1 .taken, c .before .before .links .ensures), omega arith)
+    (s, omega (arith, c .before .if1 .taken, c .before .before .links .ensures), omega arith)
 
 returns : tie.Need-returns
 returns c = c .before .matched .ensures
@@ -24,7 +24,7 @@ slice-aggregate-matched-2 c = search needs
 matched-requires-2 : tie.Need-matched-requires-2
 matched-requires-2 c κs =
     let s = c .before .before .before .before .before .pre in
-    (s .0, s .1, s .2, s .3, s .4, s .5, omega (arith, s .0 .few-links), omega arith)
+    (s, omega (arith, s .sized .few-links), omega arith)
 
 returns-2 : tie.Need-returns-2
 returns-2 c = c .before .matched2 .ensures

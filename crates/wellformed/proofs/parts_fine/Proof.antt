@@ -49,14 +49,15 @@ rows-match-requires c κs =
     let yes = not-false _ (c .before .before .before .before .before .if2 .left) in
     let rows = sym (c .before .before .before .before .before .before .before .before .rows-fine .ensures .0) ∙ yes in
     let links = sym (c .before .before .before .before .links-fine .ensures) ∙ not-false _ (c .before .before .before .if3 .left) in
-    let map = sym (c .before .before .map-fine .ensures) ∙ not-false _ (c .before .if4 .left) in (
-      s .0,
-      are-numbers _ classes rows links map,
-      rows-ascend _ rows,
-      keyed-as _ _ _ yes (c .before .before .before .before .before .before .before .before .rows-fine .ensures .1),
-      groups-low _ classes (s .0 .few-classes),
-      search needs,
-    )
+    let map = sym (c .before .before .map-fine .ensures) ∙ not-false _ (c .before .if4 .left) in
+    record {
+      sized = s .0;
+      in-range = are-numbers _ classes rows links map;
+      rising = rows-ascend _ rows;
+      keyed = keyed-as _ _ _ yes (c .before .before .before .before .before .before .before .before .rows-fine .ensures .1);
+      few-groups = groups-low _ classes (s .0 .few-classes);
+      long = search needs;
+    }
 
 same-length-4 : tie.Need-same-length-4
 same-length-4 c = search needs
