@@ -1,6 +1,6 @@
 //! The cases of asking: questions sound and malformed, asked of registers, one line for each case.
-//! Nine families, in this order: code, tail, literal, entries, bytes, nested, order, asked,
-//! around. An answer is one character, and several answers stand together without a blank.
+//! Ten families, in this order: code, tail, literal, entries, bytes, nested, order, asked,
+//! around, steps. An answer is one character, and several answers stand together without a blank.
 
 use crate::answers::ask_register;
 use crate::bytes::with_number;
@@ -24,7 +24,8 @@ pub fn print(out: &mut impl Write) -> io::Result<()> {
     print_nested(out)?;
     print_orders(out)?;
     print_asked(out)?;
-    print_around(out)
+    print_around(out)?;
+    print_steps(out)
 }
 
 fn answer(register: &[u8], question: &[u8], item: usize) -> char {
@@ -188,6 +189,41 @@ fn print_around(out: &mut impl Write) -> io::Result<()> {
         }
     }
     Ok(())
+}
+
+/// At-leasts one inside the other, outgoing by label 0, around "has mark 32" and then around
+/// "lacks mark 32": by turns at least 8 and at least 1 at the hub of a full register, by turns at
+/// least 1 and at least 8 at the first and the last item around it.
+fn print_steps(out: &mut impl Write) -> io::Result<()> {
+    let file = hub().write();
+    for count in (0..13).chain(61..64) {
+        let question = |turns: [u8; 2], literal| -> Vec<u8> {
+            let nested = turns.map(|t| entry(16, t)).into_iter().cycle().take(count);
+            nested.chain([entry(1, literal)]).flatten().collect()
+        };
+        let three = |literal| {
+            let places = [([8, 1], 0), ([1, 8], 1), ([1, 8], 1_023)];
+            places.map(|(turns, item)| answer(&file, &question(turns, literal), item))
+        };
+        let answers: String = [32, 224].into_iter().flat_map(three).collect();
+        writeln!(out, "steps {count} {answers}")?;
+    }
+    Ok(())
+}
+
+/// Item 0 with a link by label 0 to each of 1,023 others, and from each of them one back.
+fn hub() -> Register {
+    let link = |source, target| Link {
+        source: Item(source),
+        label: 0,
+        target: Item(target),
+    };
+    let there = (1..1_024).map(|x| link(0, x));
+    let back = (1..1_024).map(|x| link(x, 0));
+    Register {
+        marks: vec![0; 1_024],
+        links: there.chain(back).collect(),
+    }
 }
 
 /// Item 0 in the middle of nine others: by label l it has links to items 1 to 1 + l mod 9, and from

@@ -1,5 +1,5 @@
 // The cases of asking a register, family by family: every code with every second byte, every literal, lengths, nesting, the order of the
-// refusals, seeded questions at every item of seeded registers, every threshold by every label.
+// refusals, seeded questions at every item of seeded registers, every threshold by every label, and questions that ask very much.
 use calls;
 use casework::bytes;
 use casework::line::Line;
@@ -18,6 +18,7 @@ pub fn cases(family: usize) -> usize {
         6 => 16,
         7 => 2000,
         8 => 32,
+        9 => 16,
         _ => 0,
     }
 }
@@ -32,7 +33,8 @@ pub fn case(family: usize, c: usize) {
         5 => nest(1 + c / 4, nest_item(c % 4)),
         6 => order(c / 4, c / 2 % 2, c % 2),
         7 => seeded(known::seed(c)),
-        _ => around((16 + 16 * (c / 16 % 2)) as u64, (c % 16) as u64),
+        8 => around((16 + 16 * (c / 16 % 2)) as u64, (c % 16) as u64),
+        _ => steps(step_count(c)),
     }
 }
 
@@ -235,4 +237,53 @@ fn put_spoke(b: &mut [u8], k: usize, back: u64, s: u64) -> usize {
     let target = if back == 0 { outer } else { 0 };
     made::put_link(b, 10, k, source, label, target);
     k + 1
+}
+
+// ---- `steps E`: E at-leasts, one inside the other, by turns at least 8 and at least 1 out by 0, and then "has mark 32", asked at the hub of a
+// full register; the same, by turns at least 1 and at least 8, at the first and at the last item around it; and all three with "lacks mark
+// 32". Where the innermost does not hold, every item is asked at every other entry.
+
+fn step_count(c: usize) -> usize {
+    if c < 13 { c } else { 48 + c % 16 }
+}
+
+fn steps(count: usize) {
+    let mut b = [0u8; 16384];
+    put_hub(&mut b);
+    let line = Line::of(b"steps", &[count as u64]).word(b"");
+    let told = at_three(line, &b, count % 64, 32);
+    at_three(told, &b, count % 64, 224).print();
+}
+
+// Item 0 with a link by label 0 to each of 1,023 others, and from each of them one back.
+fn put_hub(b: &mut [u8]) {
+    made::put_head(b, 1024, 2046);
+    let mut k = 0;
+    while k < 1023 {
+        made::put_link(b, 1024, k, 0, 0, k as u64 + 1);
+        made::put_link(b, 1024, 1023 + k, k as u64 + 1, 0, 0);
+        k += 1;
+    }
+}
+
+fn at_three(line: Line, b: &[u8], count: usize, literal: u64) -> Line {
+    line.byte(stepped(b, count, 0, literal, 0))
+        .byte(stepped(b, count, 1, literal, 1))
+        .byte(stepped(b, count, 1, literal, 1023))
+}
+
+fn stepped(b: &[u8], count: usize, turn: usize, literal: u64, item: usize) -> u8 {
+    let mut q = [0u8; 256];
+    put_steps(&mut q, count, turn);
+    thrown::put_entry(&mut q, count, 1, literal);
+    calls::asked(b, 16384, &q, 4 * (count % 64) + 4, item)
+}
+
+// At least 8 at every other entry, from the first or from the second on, and at least 1 at the others.
+fn put_steps(q: &mut [u8], count: usize, turn: usize) {
+    let mut k = 0;
+    while k < count {
+        thrown::put_entry(q, k, 16, if k % 2 == turn { 8 } else { 1 });
+        k += 1;
+    }
 }

@@ -8,7 +8,7 @@ use crate::question_generator::{damaged_question, sound_question};
 use std::collections::BTreeSet;
 use std::sync::LazyLock;
 
-const FAMILIES: [(&str, usize); 9] = [
+const FAMILIES: [(&str, usize); 10] = [
     ("code", 768),
     ("tail", 9),
     ("literal", 256),
@@ -18,6 +18,7 @@ const FAMILIES: [(&str, usize); 9] = [
     ("order", 16),
     ("asked", 2_000),
     ("around", 32),
+    ("steps", 16),
 ];
 
 /// The family and the answers of every line, in the order printed.
@@ -135,4 +136,11 @@ fn around_known_beforehand() {
     };
     let each_way: String = (0..16).map(by_label).collect();
     assert_eq!(answers_of("around"), each_way.repeat(2));
+}
+
+/// The hub has 8 neighbours and more, each other item has one: by turns every at-least is met, so
+/// that the whole holds exactly where the literal does.
+#[test]
+fn steps_known_beforehand() {
+    assert_eq!(answers_of("steps"), "nnnyyy".repeat(16));
 }
