@@ -34,8 +34,8 @@ pub fn class_links(reg: &[u8], n: usize, m: usize, classes: &[u16], out: &mut [u
 // The key of each link, in the order of the links.
 fn put_keys(reg: &[u8], n: usize, m: usize, classes: &[u16], keys: &mut [u64])
     requires { ⌜ OfRegister (now reg) n m × (n ≤ length (now classes)) × (classCount (take n (now classes)) ≤ 1024) × (m ≤ length (now keys)) ⌝ }
-    ensures { λ r. ⌜ now (keys .exit) ≡ tab (λ k. keyOf (take n (now (classes .entry))) (linkOf (registerIn (now (reg .entry))) k)) m ++ drop m
-        (now (keys .entry)) ⌝ }
+    ensures { λ r. ⌜ now (keys .exit) ≡ tab (λ k. keyOf (take n (now (classes .entry))) (linkOf (registerIn (now (reg .entry))) k)) m
+        ++ drop m (now (keys .entry)) ⌝ }
 {
     let mut k = 0;
     while k < m {

@@ -13,6 +13,7 @@ ghost use Rattle.meaning.specs.SummaryFile.{summaryIn};
 ghost use Rattle.header.specs.Limits.{Sized};
 ghost use Rattle.fields.specs.Places.{most, rowTest, keyAt};
 
+// The class's group is one of the groups, and its count is "1 to ν + 1".
 pub fn class_fine(s: &[u8], k: Class) -> bool
     requires { ⌜ Sized (now s) × (k .0 < length (summaryIn (now s) .classes)) ⌝ }
     ensures { λ r. ⌜ r ≡ classIn (summaryIn (now (s .entry))) (classOf (summaryIn (now (s .entry))) (k .0)) ⌝ }

@@ -54,6 +54,7 @@ fn put_asked(s: &[u8], way: Direction, asked: &mut [u64], at: usize)
     }
 }
 
+// The key of the row that class link j asks for, seen that way.
 fn asked_key(s: &[u8], way: Direction, j: usize) -> u64
     requires { ⌜ Sized (now s) × (numbers (summaryIn (now s)) ≡ true) × (j < length (summaryIn (now s) .links)) ⌝ }
     ensures { λ r. ⌜ r ≡ askedKey (summaryIn (now (s .entry))) way j ⌝ }

@@ -80,22 +80,11 @@ loop-less c = omega arith
 loop-again : tie.Need-loop-again Inv-loop μ-loop
 loop-again c =
     let l = c .before .before .before .before .before .loop .inv in
-    let fine = sym (c .before .before .before .class-fine .ensures) ∙ not-false _ (c .before .before .if2 .left) in
-    let g = class-group _ _ fine in (
+    let fine = sym (c .before .before .before .class-fine .ensures) ∙ not-false _ (c .before .before .if2 .left) in (
       omega arith,
       below-more _ _ (l .1) fine,
       one-marked _ _ _ _ (c .index .ensures ∙ c .before .group .ensures)
-          (omega (
-            arith,
-            g,
-            c .index .ensures,
-            c .before .group .ensures,
-            c .before .before .before .before .before .before .if1 .left,
-            c .before .before .before .before .before .before .before .groups .ensures,
-            c .before .before .before .before .before .before .before .before .classes .ensures,
-            c .before .before .before .before .before .before .before .before .before .before .pre .few-classes,
-            l .3,
-          )) (l .2),
+          (omega (arith, array-write-used c, l .3)) (l .2),
       simp length-set (l .3),
     )
 
