@@ -66,8 +66,8 @@ numbers-bytes S =
 taken : (n : ℕ) (s : List ℕ) → n ≤ length s → length (pack put2 (take n s)) ≡ 2 * n
 taken n s h = omega (arith, size-numbers (take n s), length-take-le n s h)
 
-module _ (d head classes : List ℕ) (c : ℕ) (rows : List ℕ) (r : ℕ) (edges : List ℕ) (e : ℕ) (map : List ℕ) (n room : ℕ)
-    (p : Parts head classes c rows r edges e map n room) where
+module _ (d head classes : List ℕ) (c : ℕ) (rows : List ℕ) (r : ℕ) (edges : List ℕ) (e : ℕ) (map : List ℕ) (n : ℕ)
+    (p : Parts head classes c rows r edges e map n) where
   pub written : (v w x y z : List ℕ) (i j k : ℕ) → i ≡ rowsOffset c → j ≡ edgesOffset c r → k ≡ mapOffset c r e →
       v ≡ sets d 0 (pack put2 (take 12 head)) → w ≡ sets v 24 (pack put2 (take (classFields * c) classes)) → x ≡ sets w i (pack put2 (take (4 * r) rows)) →
       y ≡ sets x j (pack put2 (take (3 * e) edges)) → z ≡ sets y k (pack put2 (take n map)) →
@@ -127,10 +127,10 @@ bytes-long S =
 
 -- ---- how long they are
 
-pub parts-long : (head classes : List ℕ) (c : ℕ) (rows : List ℕ) (r : ℕ) (edges : List ℕ) (e : ℕ) (map : List ℕ) (n room : ℕ) →
-    Parts head classes c rows r edges e map n room → length (pack put2 (numbers head classes c rows r edges e map n)) ≡ summarySize c r e n
+pub parts-long : (head classes : List ℕ) (c : ℕ) (rows : List ℕ) (r : ℕ) (edges : List ℕ) (e : ℕ) (map : List ℕ) (n : ℕ) →
+    Parts head classes c rows r edges e map n → length (pack put2 (numbers head classes c rows r edges e map n)) ≡ summarySize c r e n
 unfolding numbers
-parts-long head classes c rows r edges e map n room p =
+parts-long head classes c rows r edges e map n p =
     let H = take 12 head in
     let C = take (classFields * c) classes in
     let O = take (4 * r) rows in

@@ -40,11 +40,10 @@ numbers head classes c rows r edges e map n =
     take 12 head ++ (take (classFields * c) classes ++ (take (4 * r) rows ++ (take (3 * e) edges ++ take n map)))
 
 -- the parts are there, within the limits, and there is room for them
-pub record Parts (head classes : List ℕ) (c : ℕ) (rows : List ℕ) (r : ℕ) (edges : List ℕ) (e : ℕ) (map : List ℕ) (n room : ℕ) : Type 0 where
+pub record Parts (head classes : List ℕ) (c : ℕ) (rows : List ℕ) (r : ℕ) (edges : List ℕ) (e : ℕ) (map : List ℕ) (n : ℕ) : Type 0 where
   pub few : (c ≤ 1024) × (r ≤ 4096) × (e ≤ 2048) × (n ≤ 1024)
   pub heads : 12 ≤ length head
   pub classes-there : classFields * c ≤ length classes
   pub rows-there : 4 * r ≤ length rows
   pub edges-there : 3 * e ≤ length edges
   pub map-there : n ≤ length map
-  pub fits : mapOffset c r e + 2 * n ≤ room

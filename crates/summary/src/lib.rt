@@ -5,9 +5,7 @@ use said::Wrote;
 ghost use mathlib.Core.Path.{_≡_};
 ghost use Prim.Native.Nat.{_+_, _*_, _≤_};
 ghost use lib.ListN.{length};
-ghost use lib.Seq.{sets};
 ghost use Rattle.meaning.specs.Bytes.{put2, pack};
-ghost use Rattle.meaning.specs.SummaryFile.{summarySize};
 ghost use Rattle.meaning.specs.Answers.{into};
 ghost use Rattle.said.specs.Written.{Gives};
 ghost use Rattle.summary.specs.Numbers.{Parts, numbers, headOf};
@@ -19,7 +17,8 @@ pub const ROW: usize = 4;
 
 pub const EDGE: usize = 3;
 
-// "9: output buffer shorter than the answer": no byte is written before it is known that all fit.
+// The five parts, of c classes, r rows, e class links and n items. "9: output buffer shorter than the answer": no byte is written before it
+// is known that all fit.
 pub fn file(
     out: &mut [u8],
     head: &[u16],
@@ -32,35 +31,15 @@ pub fn file(
     map: &[u16],
     n: usize,
 ) -> Wrote
-    requires { ⌜ Parts (now head) (now classes) c (now rows) r (now edges) e (now map) n (summarySize c r e n) ⌝ }
+    requires { ⌜ Parts (now head) (now classes) c (now rows) r (now edges) e (now map) n ⌝ }
     ensures { λ w. ⌜ Gives w (now (out .entry)) (now (out .exit))
-        (into (length (now (out .entry))) (pack put2 (numbers (now (head .entry)) (now (classes .entry)) c (now (rows .entry)) r (now (edges .entry)) e (now (map .entry)) n))) ⌝ }
+        (into (length (now (out .entry)))
+        (pack put2 (numbers (now (head .entry)) (now (classes .entry)) c (now (rows .entry)) r (now (edges .entry)) e (now (map .entry)) n))) ⌝ }
 {
     let long = 24 + 8 * c + 8 * r + 6 * e + 2 * n;
     if out.len() < long {
         return Wrote::Refused(Refusal::Room);
     }
-    put_parts(out, head, classes, c, rows, r, edges, e, map, n);
-    Wrote::Length(long)
-}
-
-// The five parts, of c classes, r rows, e class links and n items.
-fn put_parts(
-    out: &mut [u8],
-    head: &[u16],
-    classes: &[u16],
-    c: usize,
-    rows: &[u16],
-    r: usize,
-    edges: &[u16],
-    e: usize,
-    map: &[u16],
-    n: usize,
-)
-    requires { ⌜ Parts (now head) (now classes) c (now rows) r (now edges) e (now map) n (length (now out)) ⌝ }
-    ensures { λ _. ⌜ now (out .exit) ≡ sets (now (out .entry)) 0
-        (pack put2 (numbers (now (head .entry)) (now (classes .entry)) c (now (rows .entry)) r (now (edges .entry)) e (now (map .entry)) n)) ⌝ }
-{
     wire::put_numbers(out, 0, head, 12);
     let mut at = 24;
     wire::put_numbers(out, at, classes, CLASS * c);
@@ -70,6 +49,7 @@ fn put_parts(
     wire::put_numbers(out, at, edges, EDGE * e);
     at += 2 * EDGE * e;
     wire::put_numbers(out, at, map, n);
+    Wrote::Length(long)
 }
 
 // What the header says besides the offsets.

@@ -107,7 +107,6 @@ file-requires c κs =
       rows-there = omega (arith, r, rows);
       edges-there = omega (arith, e, links);
       map-there = map-there _ _ _ _ (s .args .nu) _ _ _ _ _ _ (s .args .i) (s .pre);
-      fits = omega arith;
     }
 
 same-length : tie.Need-same-length
