@@ -1,5 +1,6 @@
--- P1 to P11 of document 01: one table of cases, one test that the checker computes, one statement. Each case goes through the
--- definition that a public call's contract cites. Leans on Answers.
+-- One table of cases, one test that the checker computes, one statement: P1 to P11 of document 01, each findable by its number, and behind
+-- them a case for each other clause (Cases). Each goes through the definition that a public call's contract cites, so that bending a
+-- definition is refused here. Leans on Figures for the files and questions, on Answers for the calls.
 use Prim.Native.Nat.{ℕ, _+_, _*_}
 use mathlib.Core.Bool.{Bool, true, false, cond, _&&_}
 use mathlib.Core.List.{List, [], _∷_, _++_}
@@ -21,84 +22,10 @@ use Rattle.meaning.specs.SummaryFile as SummaryFile
 use Rattle.meaning.specs.QuestionFile as QuestionFile
 use Rattle.meaning.specs.Answers as Answers
 use Rattle.meaning.specs.Answers.{Answer, refused, said, wrote, condense, check, askRegister, askSummary, list}
-
--- ---- registers
-
--- "Register A: items 0, 1, 2 are hoists (marks 1), 3 and 4 passed hooks (6), 5 a failed hook (10); .. Links by label 0: 0 to 3, 1 to 4, 2 to 5."
-A : List ℕ
-A =
-    0 ∷ 6 ∷ 0 ∷ 3 ∷ 0 ∷ 12 ∷ 0 ∷ 36 ∷ 0 ∷ 54 ∷ 0 ∷ 0 ∷
-    0 ∷ 0 ∷ 0 ∷ 1 ∷ 0 ∷ 0 ∷ 0 ∷ 1 ∷ 0 ∷ 0 ∷ 0 ∷ 1 ∷ 0 ∷ 0 ∷ 0 ∷ 6 ∷ 0 ∷ 0 ∷ 0 ∷ 6 ∷ 0 ∷ 0 ∷ 0 ∷ 10 ∷
-    0 ∷ 0 ∷ 0 ∷ 0 ∷ 0 ∷ 3 ∷
-    0 ∷ 1 ∷ 0 ∷ 0 ∷ 0 ∷ 4 ∷
-    0 ∷ 2 ∷ 0 ∷ 0 ∷ 0 ∷ 5 ∷ []
-
--- the summary of A for 1, 1, 1, as document 01 lists it: header, classes, rows, class links (edges), map
-S1 : List ℕ
-S1 =
-    0 ∷ 1 ∷ 0 ∷ 1 ∷ 0 ∷ 1 ∷ 0 ∷ 4 ∷ 0 ∷ 3 ∷ 0 ∷ 4 ∷ 0 ∷ 2 ∷ 0 ∷ 6 ∷ 0 ∷ 24 ∷ 0 ∷ 56 ∷ 0 ∷ 88 ∷ 0 ∷ 100 ∷
-    0 ∷ 0 ∷ 0 ∷ 1 ∷ 0 ∷ 0 ∷ 0 ∷ 2 ∷
-    0 ∷ 0 ∷ 0 ∷ 1 ∷ 0 ∷ 0 ∷ 0 ∷ 1 ∷
-    0 ∷ 0 ∷ 0 ∷ 6 ∷ 0 ∷ 1 ∷ 0 ∷ 2 ∷
-    0 ∷ 0 ∷ 0 ∷ 10 ∷ 0 ∷ 2 ∷ 0 ∷ 1 ∷
-    0 ∷ 0 ∷ 0 ∷ 0 ∷ 0 ∷ 1 ∷ 0 ∷ 1 ∷
-    0 ∷ 1 ∷ 0 ∷ 0 ∷ 0 ∷ 2 ∷ 0 ∷ 1 ∷
-    0 ∷ 2 ∷ 0 ∷ 16 ∷ 0 ∷ 0 ∷ 0 ∷ 1 ∷
-    0 ∷ 3 ∷ 0 ∷ 16 ∷ 0 ∷ 0 ∷ 0 ∷ 1 ∷
-    0 ∷ 0 ∷ 0 ∷ 0 ∷ 0 ∷ 2 ∷
-    0 ∷ 1 ∷ 0 ∷ 0 ∷ 0 ∷ 3 ∷
-    0 ∷ 0 ∷ 0 ∷ 0 ∷ 0 ∷ 1 ∷ 0 ∷ 2 ∷ 0 ∷ 2 ∷ 0 ∷ 3 ∷ []
-
--- "a chain of four unmarked items, links 0 to 1 to 2 to 3, label 0"
-chain : List ℕ
-chain =
-    0 ∷ 4 ∷ 0 ∷ 3 ∷ 0 ∷ 12 ∷ 0 ∷ 28 ∷ 0 ∷ 46 ∷ 0 ∷ 0 ∷
-    0 ∷ 0 ∷ 0 ∷ 0 ∷ 0 ∷ 0 ∷ 0 ∷ 0 ∷ 0 ∷ 0 ∷ 0 ∷ 0 ∷ 0 ∷ 0 ∷ 0 ∷ 0 ∷
-    0 ∷ 0 ∷ 0 ∷ 0 ∷ 0 ∷ 1 ∷
-    0 ∷ 1 ∷ 0 ∷ 0 ∷ 0 ∷ 2 ∷
-    0 ∷ 2 ∷ 0 ∷ 0 ∷ 0 ∷ 3 ∷ []
-
--- "a hoist with three passed hooks, links out by 0"
-three : List ℕ
-three =
-    0 ∷ 4 ∷ 0 ∷ 3 ∷ 0 ∷ 12 ∷ 0 ∷ 28 ∷ 0 ∷ 46 ∷ 0 ∷ 0 ∷
-    0 ∷ 0 ∷ 0 ∷ 1 ∷ 0 ∷ 0 ∷ 0 ∷ 6 ∷ 0 ∷ 0 ∷ 0 ∷ 6 ∷ 0 ∷ 0 ∷ 0 ∷ 6 ∷
-    0 ∷ 0 ∷ 0 ∷ 0 ∷ 0 ∷ 1 ∷
-    0 ∷ 0 ∷ 0 ∷ 0 ∷ 0 ∷ 2 ∷
-    0 ∷ 0 ∷ 0 ∷ 0 ∷ 0 ∷ 3 ∷ []
-
--- "a hoist with one passed and one failed hook, links out by 0"
-pair : List ℕ
-pair =
-    0 ∷ 3 ∷ 0 ∷ 2 ∷ 0 ∷ 12 ∷ 0 ∷ 24 ∷ 0 ∷ 36 ∷ 0 ∷ 0 ∷
-    0 ∷ 0 ∷ 0 ∷ 1 ∷ 0 ∷ 0 ∷ 0 ∷ 6 ∷ 0 ∷ 0 ∷ 0 ∷ 10 ∷
-    0 ∷ 0 ∷ 0 ∷ 0 ∷ 0 ∷ 1 ∷
-    0 ∷ 0 ∷ 0 ∷ 0 ∷ 0 ∷ 2 ∷ []
-
--- "the empty register gives 24 bytes, all offsets 24"
-empty : List ℕ
-empty = 0 ∷ 0 ∷ 0 ∷ 0 ∷ 0 ∷ 12 ∷ 0 ∷ 12 ∷ 0 ∷ 12 ∷ 0 ∷ 0 ∷ []
-
-none : List ℕ
-none = 0 ∷ 1 ∷ 0 ∷ 1 ∷ 0 ∷ 1 ∷ 0 ∷ 0 ∷ 0 ∷ 0 ∷ 0 ∷ 0 ∷ 0 ∷ 0 ∷ 0 ∷ 0 ∷ 0 ∷ 24 ∷ 0 ∷ 24 ∷ 0 ∷ 24 ∷ 0 ∷ 24 ∷ []
-
--- ---- questions, entry by entry
-
-entry : ℕ → ℕ → List ℕ
-entry a v = a ∷ v ∷ 0 ∷ 0 ∷ []
-
--- the literal whose second byte is v (252 is −4, 224 is −32, 223 is −33); "at least t out by 0" and "at least t in by 0"; true
-literal : ℕ → List ℕ
-literal v = entry 1 v
-
-out : ℕ → List ℕ
-out t = entry 16 t
-
-incoming : ℕ → List ℕ
-incoming t = entry 32 t
-
-truth : List ℕ
-truth = entry 0 0
+use Rattle.meaning.specs.Figures as Figures
+use Rattle.meaning.specs.Figures.{A, chain, three, pair, empty, S1, none, literal, out, incoming, truth}
+use Rattle.meaning.specs.Cases as Cases
+use Rattle.meaning.specs.Cases.{Case, bytes, registers, questions, holding, reaching, wellFormedness, condensing, checking, orders, lent}
 
 -- ---- answers
 
@@ -120,11 +47,6 @@ equal (wrote p) (refused k) = false
 equal (wrote p) (said t) = false
 equal (wrote p) (wrote q) = same p q
 
-bytes : Answer → List ℕ
-bytes (refused k) = []
-bytes (said t) = []
-bytes (wrote p) = p
-
 -- how many classes and groups a summary at level i has, for µ = 1
 counts : ℕ → List ℕ → Answer
 counts i b = let s = bytes (condense i 1 1 b 9999) in wrote (num2 s 6 ∷ num2 s 8 ∷ [])
@@ -141,14 +63,8 @@ row µ b j =
 
 -- ---- the table
 
--- P number, what the definitions answer, what document 01 says
-pub record Case : Type 0 where
-  pub P : ℕ
-  pub got : Answer
-  pub want : Answer
-
-pub table : List Case
-table =
+numbered : List Case
+numbered =
     -- P1: "that summary; the file has 112 bytes": there is room in 112 bytes and not in 111; and it is an abstraction of A
     record { P = 1; got = condense 1 1 1 A 112; want = wrote S1 } ∷
     record { P = 1; got = wrote (length S1 ∷ []); want = wrote (112 ∷ []) } ∷
@@ -207,13 +123,24 @@ table =
     record { P = 11; got = condense 1 1 1 empty 23; want = refused 9 } ∷
     []
 
+pub table : List Case
+table = numbered ++ (registers ++ (questions ++ (holding ++ (reaching ++ (wellFormedness ++ (condensing ++ (checking ++ (orders ++ lent))))))))
+
 pub passes : List Case → Bool
 passes [] = true
 passes (c ∷ cs) = equal (c .got) (c .want) && passes cs
 
 -- every case of the table is answered as document 01 says: computed with the definitions of each page, which are named here
 pub examples : T (passes table)
-unfolding passes table same equal entry literal out incoming truth A S1 chain three pair empty none counts asked row bytes
+unfolding passes table numbered same equal counts asked row
+    Cases.so Cases.bytes Cases.split Cases.tallied Cases.judged Cases.read Cases.signed Cases.handed Cases.registers Cases.questions Cases.holding
+    Cases.reaching Cases.wellFormedness Cases.condensing Cases.checking Cases.orders Cases.lent
+    Figures.A Figures.chain Figures.three Figures.pair Figures.empty Figures.marked Figures.aLink Figures.drawn Figures.crossed Figures.byTarget
+    Figures.doubled Figures.knot Figures.fifteen Figures.uneven Figures.S1 Figures.none Figures.aClass Figures.aRow Figures.picture
+    Figures.proposed Figures.classesA Figures.outA Figures.outA2 Figures.inA Figures.inA2 Figures.rowsA Figures.linksA Figures.mapA
+    Figures.classed Figures.rowed Figures.linked Figures.mapped Figures.chained Figures.fifteenAs Figures.fifteenInTwo Figures.knotSummary
+    Figures.crossedSummary Figures.ring Figures.disagreeing Figures.sized Figures.crowd Figures.entry Figures.literal Figures.out
+    Figures.incoming Figures.truth Figures.negated Figures.conjoined Figures.disjoined Figures.deep Figures.nots
     Count.sum Count.all Count.those Count.seek Count.tab Count.join Count.total Count.any Count.each Count.ascends
     Register.marksOf Register.sameWay Register.near Register.far Register.leads Register.neighbours
     Level.sameCount Level.sameAround Level.alike Level.first Level.lowest Level.number Level.classList Level.classCount Level.lowestItem
@@ -227,10 +154,11 @@ unfolding passes table same equal entry literal out incoming truth A S1 chain th
     WellFormed.groupsUsed WellFormed.wellFormed
     Check.rowRight Check.imageStands Check.isImage Check.fits
     Bytes.num2 Bytes.num4 Bytes.put2 Bytes.put4 Bytes.pack
-    RegisterFile.linkAt RegisterFile.putLink RegisterFile.registerIn RegisterFile.headed RegisterFile.linksFine RegisterFile.fault
+    RegisterFile.linkAt RegisterFile.putLink RegisterFile.registerIn RegisterFile.registerHead RegisterFile.registerBytes RegisterFile.headed
+    RegisterFile.linksFine RegisterFile.fault
     SummaryFile.classIs SummaryFile.putClass SummaryFile.wayFrom SummaryFile.labelFrom SummaryFile.rowIs SummaryFile.putRow
     SummaryFile.summaryIn SummaryFile.summaryHead SummaryFile.summaryBytes SummaryFile.exact SummaryFile.wellFormedFile
     QuestionFile.signed QuestionFile.when QuestionFile.kind QuestionFile.andKind QuestionFile.kinds QuestionFile.treeOf QuestionFile.question
-    Answers.unless Answers.into Answers.condense Answers.check Answers.askTree Answers.askRegister Answers.beyond Answers.askIn
-    Answers.askSummary Answers.listIn Answers.list
+    Answers.returned Answers.code Answers.left Answers.unless Answers.into Answers.condense Answers.check Answers.askTree Answers.askRegister
+    Answers.beyond Answers.askIn Answers.askSummary Answers.listIn Answers.list
 examples = tt

@@ -17,5 +17,7 @@ pub mod RegisterFile
 pub mod SummaryFile
 pub mod QuestionFile
 pub mod Answers
--- P1 to P11 of document 01, computed: what breaks where a definition is bent
+-- P1 to P11 of document 01 and a case for each other clause, computed: what breaks where a definition is bent
+pub mod Figures
+pub mod Cases
 pub mod Examples
