@@ -3,8 +3,8 @@
 //! a fixed set of registers, checks a fixed set of proposed summaries, asks and lists from a fixed
 //! set of summaries, makes every call at the limits, makes all five on a fixed set of thrown
 //! inputs, and prints one line for each case. `second condense` condenses the register on standard
-//! input and prints its summary. `second counts` counts how the thrown inputs were answered, and
-//! how many of them have two faults at once.
+//! input and prints its summary; `second inputs DIR` writes inputs for that into a folder. `second
+//! counts` counts how the thrown inputs were answered, and how many of them have two faults at once.
 
 mod answers;
 mod asking;
@@ -19,6 +19,7 @@ mod counts;
 mod five;
 mod five_generator;
 mod generator;
+mod inputs;
 mod lent;
 mod limits_run;
 mod link;
@@ -59,9 +60,10 @@ fn main() -> io::Result<ExitCode> {
             five::print(&mut out)?;
         }
         [word] if word == "condense" => program::run(io::stdin().lock(), &mut out)?,
+        [word, folder] if word == "inputs" => inputs::write(folder.as_ref(), &mut out)?,
         [word] if word == "counts" => counts::print(&mut out)?,
         _ => {
-            eprintln!("usage: second [condense | counts]");
+            eprintln!("usage: second [condense | inputs DIR | counts]");
             return Ok(ExitCode::from(2));
         }
     }

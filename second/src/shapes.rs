@@ -1,6 +1,6 @@
 //! Registers made to be condensed or checked: register A, register B, which is A with item 5 passed
-//! (marks 6 in place of 10), the empty register, nine shapes of n items, n from 1 to 1,024, and the
-//! labelled register, which is thrown.
+//! (marks 6 in place of 10), the empty register, a chain of items with given marks, nine shapes of n
+//! items, n from 1 to 1,024, and the labelled register, which is thrown.
 //!
 //! Shapes. The links always stand in the register's order; the items are x, 0 to n − 1.
 //!   0 chain   marks 0; from x to x + 1 by label 0, for x + 1 < n.
@@ -47,6 +47,12 @@ pub fn register_b() -> Register {
 /// "A register with n = 0 is accepted."
 pub fn empty_register() -> Register {
     register(vec![], [])
+}
+
+/// From each item x to x + 1 by label x mod 16.
+pub fn marked_chain(marks: Vec<u32>) -> Register {
+    let last = marks.len() - 1;
+    register(marks, (0..last).map(|x| (x, x % 16, x + 1)))
 }
 
 pub fn labelled_register(dice: &mut Dice) -> Register {

@@ -1,7 +1,7 @@
 //! The tests: the document's examples by number, its limits, the refusals and their orders, the
 //! law that a summary answers as its register does, and the printed cases of asking, of condensing,
 //! of checking, of listing, of the run at the limits and of all five calls, with the counts of the
-//! last. What they share stands here.
+//! last; and the inputs of the condensing program. What they share stands here.
 
 mod asking;
 mod check;
@@ -10,6 +10,7 @@ mod condensing;
 mod counts;
 mod examples;
 mod five;
+mod inputs;
 mod limits;
 mod limits_run;
 mod listing;
