@@ -26,9 +26,9 @@
 //!   sized     n of 0, 1, 1024, 1025, m of 0, 1, 2048, 2049, step of 1, 4; the register of the
 //!             limits.
 //!   shape     shape 0 to 8, its n of 50, 1024, step.
-//!   spoilt    shape 0 to 8, damage 0 to 16. The shape of 50 items, of n items and m links, damaged.
-//!             Level is one more than shape + damage mod 4, neighbour cap one more than damage mod
-//!             7, class cap one more than shape. The damages:
+//!   spoilt    shape 0 to 8, damage 0 to 16. The shape of n = 50 items, damaged. Level is one more
+//!             than (shape + damage) mod 4, neighbour cap one more than damage mod 7, class cap one
+//!             more than shape. The damages:
 //!               0 to 5  header field 0 to 5 grows by one.
 //!               6       a byte 0 is added at the end.
 //!               7       the last byte is cut off.

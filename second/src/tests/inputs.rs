@@ -4,6 +4,7 @@
 
 use super::examples::printed;
 use crate::inputs::{self, inputs};
+use crate::register::Register;
 use crate::shapes::SHAPES;
 use std::collections::{BTreeMap, BTreeSet};
 use std::path::PathBuf;
@@ -257,6 +258,18 @@ fn every_shape_at_every_level() {
         .map(|case| (case.numbers[0], case.numbers[2]))
         .collect();
     assert_eq!(shapes.len(), 4 * SHAPES.len());
+}
+
+/// The last item is a source and a target, and label 15 is there; one more of each is among the
+/// spoilt.
+#[test]
+fn items_and_labels_up_to_the_last() {
+    let register = |case: &Case| Register::read(&case.bytes[6..]).expect("sound");
+    let full = cases_of("shape").filter(|case| case.numbers[1] == 1_024);
+    let links: Vec<_> = full.flat_map(|case| register(case).links).collect();
+    assert_eq!(links.iter().map(|link| link.source.0).max(), Some(1_023));
+    assert_eq!(links.iter().map(|link| link.target.0).max(), Some(1_023));
+    assert_eq!(links.iter().map(|link| link.label).max(), Some(15));
 }
 
 /// Each field, each part and each fault of a link by its number, in every shape that has it.
