@@ -97,6 +97,7 @@ questions =
     so (askRegister A (take 3 truth) 0) (refused 5) ∷
     so (askRegister A (truth ++ (0 ∷ [])) 0) (refused 5) ∷
     so (askRegister A (truth ++ (0 ∷ 0 ∷ [])) 0) (refused 5) ∷
+    so (askRegister A (truth ++ (0 ∷ 0 ∷ 0 ∷ [])) 0) (refused 5) ∷
     so (askRegister A (truth ++ truth) 0) (refused 5) ∷
     so (askRegister A (nots 62) 0) (said true) ∷
     so (askRegister A (nots 63) 0) (said false) ∷
