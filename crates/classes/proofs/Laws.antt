@@ -14,7 +14,7 @@ use Rattle.meaning.specs.Count.{sum, tally, join, seek}
 use Rattle.meaning.specs.Register.{Register, items, marksOf}
 use Rattle.meaning.specs.Level.{classCount, lowestItem}
 use Rattle.meaning.specs.Condense.{by, classFor}
-use Rattle.theory.proofs.CountLaws.{by-bool, by-eq, no, seek-le, seek-passes, join-same}
+use Rattle.theory.proofs.CountLaws.{by-bool, by-eq, no, tally-same, seek-le, seek-passes, join-same}
 use Rattle.theory.proofs.NumberLaws.{tally-lt, getD-below}
 use Rattle.promise.proofs.Access.{items-at, readable}
 use Rattle.meaning.specs.RegisterFile.{registerIn}
@@ -24,21 +24,7 @@ use Rattle.classes.specs.Counted.{part, Sorted, Enters, Numbered}
 
 -- ---- an item entered
 
-module _ (u : List ℕ) (k marks group ν : ℕ) (long : length u ≡ 4096) (h : k < 1024) where
-  -- counted with those before it
-  pub enters-later : (w : ℕ) → 0 < part u k 3 → w ≡ cap ν (part u k 3 + 1) → Enters u (set u (4 * k + 3) w) k marks group ν
-  enters-later w some e =
-      record {
-        others = λ k′ j g f. getD-set-other u (4 * k + 3) (4 * k′ + j) w 0 (λ z. f (omega arith));
-        first = λ z. absurd (omega arith);
-        later = λ z. (
-          getD-set-other u (4 * k + 3) (4 * k + 0) w 0 (λ s. omega arith),
-          getD-set-other u (4 * k + 3) (4 * k + 1) w 0 (λ s. omega arith),
-          getD-set-other u (4 * k + 3) (4 * k + 2) w 0 (λ s. omega arith),
-          getD-set-same u (4 * k + 3) w 0 (omega arith) ∙ e,
-        );
-      }
-
+module _ (u : List ℕ) (k marks group count : ℕ) (long : length u ≡ 4096) (h : k < 1024) where
   -- the first of its class: four numbers written one after the other
   module _ (a b : ℕ) where
     u1 : List ℕ
@@ -51,19 +37,19 @@ module _ (u : List ℕ) (k marks group ν : ℕ) (long : length u ≡ 4096) (h :
     u3 = set u2 (4 * k + 2) group
 
     u4 : List ℕ
-    u4 = set u3 (4 * k + 3) 1
+    u4 = set u3 (4 * k + 3) count
 
     kept : (i : ℕ) → (i ≡ 4 * k → ⊥) → (i ≡ 4 * k + 1 → ⊥) → (i ≡ 4 * k + 2 → ⊥) → (i ≡ 4 * k + 3 → ⊥) → getD u4 i 0 ≡ getD u i 0
     unfolding u1 u2 u3 u4
     kept i e f g z =
-        getD-set-other u3 (4 * k + 3) i 1 0 z ∙ getD-set-other u2 (4 * k + 2) i group 0 g ∙ getD-set-other u1 (4 * k + 1) i b 0 f ∙ getD-set-other u (4 * k) i a 0 e
+        getD-set-other u3 (4 * k + 3) i count 0 z ∙ getD-set-other u2 (4 * k + 2) i group 0 g ∙ getD-set-other u1 (4 * k + 1) i b 0 f ∙ getD-set-other u (4 * k) i a 0 e
 
     at-0 : part u4 k 0 ≡ a
     unfolding u1 u2 u3 u4
     at-0 =
         let z : 4 * k + 0 ≡ 4 * k = omega arith in
         ap (λ (i : ℕ). getD u4 i 0) z
-        ∙ getD-set-other u3 (4 * k + 3) (4 * k) 1 0 (λ s. omega arith)
+        ∙ getD-set-other u3 (4 * k + 3) (4 * k) count 0 (λ s. omega arith)
         ∙ getD-set-other u2 (4 * k + 2) (4 * k) group 0 (λ s. omega arith)
         ∙ getD-set-other u1 (4 * k + 1) (4 * k) b 0 (λ s. omega arith)
         ∙ getD-set-same u (4 * k) a 0 (omega arith)
@@ -71,20 +57,20 @@ module _ (u : List ℕ) (k marks group ν : ℕ) (long : length u ≡ 4096) (h :
     at-1 : part u4 k 1 ≡ b
     unfolding u1 u2 u3 u4
     at-1 =
-        getD-set-other u3 (4 * k + 3) (4 * k + 1) 1 0 (λ s. omega arith)
+        getD-set-other u3 (4 * k + 3) (4 * k + 1) count 0 (λ s. omega arith)
         ∙ getD-set-other u2 (4 * k + 2) (4 * k + 1) group 0 (λ s. omega arith)
         ∙ getD-set-same u1 (4 * k + 1) b 0 (simp length-set (omega arith))
 
     at-2 : part u4 k 2 ≡ group
     unfolding u1 u2 u3 u4
-    at-2 = getD-set-other u3 (4 * k + 3) (4 * k + 2) 1 0 (λ s. omega arith) ∙ getD-set-same u2 (4 * k + 2) group 0 (simp length-set (omega arith))
+    at-2 = getD-set-other u3 (4 * k + 3) (4 * k + 2) count 0 (λ s. omega arith) ∙ getD-set-same u2 (4 * k + 2) group 0 (simp length-set (omega arith))
 
-    at-3 : part u4 k 3 ≡ 1
+    at-3 : part u4 k 3 ≡ count
     unfolding u1 u2 u3 u4
-    at-3 = getD-set-same u3 (4 * k + 3) 1 0 (simp length-set (omega arith))
+    at-3 = getD-set-same u3 (4 * k + 3) count 0 (simp length-set (omega arith))
 
     pub enters-first : part u k 3 ≤ 0 → a ≡ marks / 65536 → b ≡ marks % 65536 →
-        Enters u (set (set (set (set u (4 * k) a) (4 * k + 1) b) (4 * k + 2) group) (4 * k + 3) 1) k marks group ν
+        Enters u (set (set (set (set u (4 * k) a) (4 * k + 1) b) (4 * k + 2) group) (4 * k + 3) count) k marks group count
     unfolding u1 u2 u3 u4
     enters-first none e f =
         record {
@@ -111,21 +97,21 @@ module _ (R : Register) (gs cs : List ℕ) (ν : ℕ) where
   abbrev among : ℕ → ℕ → ℕ
   among k x = tally (λ y. eqb (by cs y) k) x
 
-  -- the record of class k once the items below x are entered
+  -- the record of class k once the items below x are entered: whole from its first item on
   pub record Under (u : List ℕ) (x k : ℕ) : Type 0 where
-    pub number : part u k 3 ≡ cap ν (among k x)
-    pub fields : 1 ≤ among k x →
+    pub empty : among k x ≡ 0 → part u k 3 ≡ 0
+    pub whole : 1 ≤ among k x →
         (part u k 0 ≡ marksOf R (lowestItem cs k) / 65536) × (part u k 1 ≡ marksOf R (lowestItem cs k) % 65536) × (part u k 2 ≡ by gs (lowestItem cs k))
+        × (part u k 3 ≡ cap ν (among k (length cs)))
 
   -- nothing is entered yet
   pub none-entered : (k : ℕ) → k < 1024 → Under (replicate 4096 0) 0 k
   unfolding sum
-  none-entered k h =
-      let zero-capped : 0 ≡ cap ν 0 = omega arith in
-      record { number = getD-replicate {A = ℕ} 4096 (4 * k + 3) 0 0 (omega arith) ∙ zero-capped; fields = λ g. absurd (omega arith) }
+  none-entered k h = record { empty = λ g. getD-replicate {A = ℕ} 4096 (4 * k + 3) 0 0 (omega arith); whole = λ g. absurd (omega arith) }
 
   -- one item more
-  module _ (u v : List ℕ) (x : ℕ) (below : x < length cs) (enters : Enters u v (by cs x) (marksOf R x) (by gs x) ν) where
+  module _ (u v : List ℕ) (x count : ℕ) (below : x < length cs) (counted : count ≡ cap ν (among (by cs x) (length cs)))
+      (enters : Enters u v (by cs x) (marksOf R x) (by gs x) count) where
     same-class : (k : ℕ) → by cs x ≡ k → among k (x + 1) ≡ among k x + 1
     unfolding sum
     same-class k e = rw (add-one x, eq-eqb (by cs x) k e)
@@ -142,26 +128,26 @@ module _ (R : Register) (gs cs : List ℕ) (ν : ℕ) where
     own w =
         let k = by cs x in
         let more = same-class k refl in
-        by-eq (part u k 3) 0
+        let some : among k x < among k (length cs) = tally-lt (λ y. eqb (by cs y) k) x (length cs) (eq-eqb k k refl) below in
+        by-eq (among k x) 0
         (λ z.
-        let f = enters .first z in
-        let t : among k x ≡ 0 = omega (arith, w .number) in
-        let low = lowest-here k refl t in
-        record { number = omega (arith, f .3); fields = λ g. rw low (f .0, f .1, f .2) })
+        let f = enters .first (w .empty z) in
+        let low = lowest-here k refl z in
+        record { empty = λ g. absurd (omega arith); whole = λ g. rw low (f .0, f .1, f .2, f .3 ∙ counted) })
         (λ z.
-        let f = enters .later (omega arith) in
-        let t : 1 ≤ among k x = omega (arith, w .number) in
-        let g = w .fields t in
-        record { number = omega (arith, f .3, w .number); fields = λ h. (f .0 ∙ g .0, f .1 ∙ g .1, f .2 ∙ g .2) })
+        let f = w .whole (omega arith) in
+        let same = enters .later (omega (arith, f .3)) in
+        record { empty = λ g. absurd (omega arith); whole = λ g. rw same f })
 
     other : (k : ℕ) → (k ≡ by cs x → ⊥) → Under u x k → Under v (x + 1) k
     other k e w =
         let same = other-class k (λ f. e (sym f)) in
+        let kept : (j : ℕ) → j < 4 → part v k j ≡ part u k j = λ j h. enters .others k j h e in
         record {
-          number = enters .others k 3 (omega arith) e ∙ w .number ∙ ap (cap ν) (sym same);
-          fields = λ g.
-              let f = w .fields (omega arith) in
-              (enters .others k 0 (omega arith) e ∙ f .0, enters .others k 1 (omega arith) e ∙ f .1, enters .others k 2 (omega arith) e ∙ f .2);
+          empty = λ g. kept 3 (omega arith) ∙ w .empty (omega arith);
+          whole = λ g.
+              let f = w .whole (omega arith) in
+              (kept 0 (omega arith) ∙ f .0, kept 1 (omega arith) ∙ f .1, kept 2 (omega arith) ∙ f .2, kept 3 (omega arith) ∙ f .3);
         }
 
     pub entered : (k : ℕ) → Under u x k → Under v (x + 1) k
@@ -216,8 +202,8 @@ all-entered R gs cs u ν n e m long few used under =
         let w = under k (omega arith) in
         let x = used k h in
         let some = tally-lt (λ y. eqb (by cs y) k) (lowestItem cs k) n (seek-passes (λ y. eqb (getD cs y 0) k) 0 (length cs) (omega arith)) x in
-        let f = w .fields (omega arith) in
-        four-same u k _ _ _ _ (f .0) (f .1) (f .2) (w .number ∙ ap (λ (i : ℕ). cap ν (tally (λ y. eqb (by cs y) k) i)) e)
+        let f = w .whole (omega arith) in
+        four-same u k _ _ _ _ (f .0) (f .1) (f .2) (f .3 ∙ ap (λ (i : ℕ). cap ν (tally (λ y. eqb (by cs y) k) i)) (m ∙ e))
 
 -- the same, of lists that begin with the groups and the classes
 module _ (b : List ℕ) (n : ℕ) (groups classes : List ℕ) (s : Sorted b n groups classes) where
@@ -229,10 +215,18 @@ module _ (b : List ℕ) (n : ℕ) (groups classes : List ℕ) (s : Sorted b n gr
       let e : getD (take n classes) x 0 ≡ getD classes x 0 = getD-take n classes x 0 h in
       omega (arith, e, getD-below (take n classes) x (rw (length-take-le n classes (s .classes-there)) h), s .few)
 
-  pub entered-in : (ν : ℕ) (u v : List ℕ) (x : ℕ) → x < n → Enters u v (getD classes x 0) (marksOf (registerIn b) x) (getD groups x 0) ν →
+  -- counted by the whole list, or by the part of it that has the n items
+  counted-all : (ν x count : ℕ) → x < n → count ≡ cap ν (tally (λ y. eqb (getD classes y 0) (getD classes x 0)) n) →
+      count ≡ cap ν (tally (λ y. eqb (by (take n classes) y) (by (take n classes) x)) (length (take n classes)))
+  counted-all ν x count h e =
+      rw (length-take-le n classes (s .classes-there), getD-take n classes x 0 h)
+      (e ∙ ap (cap ν) (tally-same _ _ n (λ y g. ap (λ (i : ℕ). eqb i (getD classes x 0)) (sym (getD-take n classes y 0 g)))))
+
+  pub entered-in : (ν : ℕ) (u v : List ℕ) (x count : ℕ) → x < n → count ≡ cap ν (tally (λ y. eqb (getD classes y 0) (getD classes x 0)) n) →
+      Enters u v (getD classes x 0) (marksOf (registerIn b) x) (getD groups x 0) count →
       (k : ℕ) → Under (registerIn b) (take n groups) (take n classes) ν u x k → Under (registerIn b) (take n groups) (take n classes) ν v (x + 1) k
-  entered-in ν u v x h enters k w =
-      entered (registerIn b) (take n groups) (take n classes) ν u v x (rw (length-take-le n classes (s .classes-there)) h)
+  entered-in ν u v x count h e enters k w =
+      entered (registerIn b) (take n groups) (take n classes) ν u v x count (rw (length-take-le n classes (s .classes-there)) h) (counted-all ν x count h e)
       (rw (getD-take n classes x 0 h, getD-take n groups x 0 h) enters) k w
 
   pub sorted-all : (ν : ℕ) (u : List ℕ) → length u ≡ 4096 → ((k : ℕ) → k < 1024 → Under (registerIn b) (take n groups) (take n classes) ν u n k) →

@@ -3,7 +3,6 @@ use Prim.Native.Nat.{ℕ, _+_, _*_, _/_, _%_, _≤_, _<_}
 use mathlib.Core.Path.{_≡_}
 use mathlib.Core.List.{List}
 use lib.ListN.{length, getD, take}
-use Rattle.meaning.specs.Cap.{cap}
 use Rattle.meaning.specs.Count.{tab}
 use Rattle.meaning.specs.Register.{Register, items}
 use Rattle.meaning.specs.Level.{classCount, lowestItem}
@@ -25,11 +24,11 @@ pub record Sorted (b : List ℕ) (n : ℕ) (groups classes : List ℕ) : Type 0 
   pub few : classCount (take n classes) ≤ 1024
   pub used : (k : ℕ) → k < classCount (take n classes) → lowestItem (take n classes) k < n
 
--- v is u with one more item of class k entered, of those marks and that group: the first of a class gives marks and group
-pub record Enters (u v : List ℕ) (k marks group ν : ℕ) : Type 0 where
+-- v is u with an item of class k entered, of those marks and that group, where the class has so many items: the first of a class enters it
+pub record Enters (u v : List ℕ) (k marks group count : ℕ) : Type 0 where
   pub others : (k′ j : ℕ) → j < 4 → (k′ ≡ k → ⊥) → part v k′ j ≡ part u k′ j
-  pub first : part u k 3 ≡ 0 → (part v k 0 ≡ marks / 65536) × (part v k 1 ≡ marks % 65536) × (part v k 2 ≡ group) × (part v k 3 ≡ 1)
-  pub later : 0 < part u k 3 → (part v k 0 ≡ part u k 0) × (part v k 1 ≡ part u k 1) × (part v k 2 ≡ part u k 2) × (part v k 3 ≡ cap ν (part u k 3 + 1))
+  pub first : part u k 3 ≡ 0 → (part v k 0 ≡ marks / 65536) × (part v k 1 ≡ marks % 65536) × (part v k 2 ≡ group) × (part v k 3 ≡ count)
+  pub later : 0 < part u k 3 → v ≡ u
 
 -- u begins with the numbers of the class records, for the groups gs and the classes cs
 pub record Numbered (u : List ℕ) (R : Register) (gs cs : List ℕ) (ν : ℕ) : Type 0 where

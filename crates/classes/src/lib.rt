@@ -1,5 +1,5 @@
-// The class records of a summary: "Class, eight bytes: marks (four), group, item count capped at ν." The items are gone through once, in
-// order: the first of a class gives it its marks and its group, and each is counted. Leans on capped for the count.
+// The class records of a summary: "Class, eight bytes: marks (four), group, item count capped at ν." The items of each class are counted
+// first; then the items are gone through in order, and the first of a class enters it. Leans on capped for the counts.
 use capped::Capped;
 use names::Item;
 ghost use mathlib.Core.Path.{_≡_};
@@ -14,30 +14,31 @@ pub fn records(reg: &[u8], n: usize, groups: &[u16], classes: &[u16], nu: u8) ->
     requires { ⌜ Sorted (now reg) n (now groups) (now classes) ⌝ }
     ensures { λ r. ⌜ Numbered r (registerIn (now (reg .entry))) (take n (now (groups .entry))) (take n (now (classes .entry))) nu ⌝ }
 {
+    let counts = capped::by_class(classes, n, nu);
     let mut out = [0u16; 4096];
     let mut x = 0;
     while x < n {
-        enter(reg, x, groups[x], classes[x], nu, &mut out);
+        let class = classes[x];
+        let count = counts[class as usize];
+        enter(reg, x, groups[x], class, count, &mut out);
         x += 1;
     }
     out
 }
 
-// Item x entered in its class.
-fn enter(reg: &[u8], x: usize, group: u16, class: u16, nu: u8, out: &mut [u16])
+// Item x, of a class of so many items: the first of a class enters it, with its own marks and group.
+fn enter(reg: &[u8], x: usize, group: u16, class: u16, count: Capped, out: &mut [u16])
     requires { ⌜ (fault (now reg) ≡ 0) × (x < items (registerIn (now reg))) × (x < 1024) × (class < 1024) × (length (now out) ≡ 4096) ⌝ }
-    ensures { λ r. ⌜ Enters (now (out .entry)) (now (out .exit)) class (marksOf (registerIn (now (reg .entry))) x) group nu ⌝ }
+    ensures { λ r. ⌜ Enters (now (out .entry)) (now (out .exit)) class (marksOf (registerIn (now (reg .entry))) x) group (count .number) ⌝ }
 {
     let at = 4 * (class as usize);
     let number = out[at + 3];
     if 0 < number {
-        let counted = Capped { cap: nu, number }.one_more();
-        out[at + 3] = counted.number;
         return;
     }
     let marks = register::marks(reg, Item(x as u16));
     out[at] = (marks / 65536) as u16;
     out[at + 1] = (marks % 65536) as u16;
     out[at + 2] = group;
-    out[at + 3] = 1;
+    out[at + 3] = count.number;
 }

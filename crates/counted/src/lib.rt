@@ -1,10 +1,9 @@
 // Items counted and marks compared: "each item's marks equal its class's, each class's stated count equals its number of items capped at
 // ν". Leans on reader and register for the two files, on capped for a count up to a cap.
-use capped::Capped;
 use names::Class;
 use names::Item;
 ghost use mathlib.Core.Path.{_≡_};
-ghost use Prim.Native.Nat.{ℕ, _<_};
+ghost use Prim.Native.Nat.{ℕ, _≤_, _<_};
 ghost use lib.Dec.{eqb};
 ghost use lib.ListN.{length, getD};
 ghost use Rattle.meaning.specs.Count.{tally, all};
@@ -34,19 +33,15 @@ pub fn marks_equal(reg: &[u8], n: usize, s: &[u8]) -> bool
     true
 }
 
-// The items of each class, counted up to ν: "A capped count takes one more .. and gives back the capped count".
-fn put_counts(n: usize, s: &[u8], nu: u8, counts: &mut [u16])
-    requires { ⌜ Proposed (now s) n × (nu ≡ summaryIn (now s) .classCap) × (length (now counts) ≡ 1024)
-        × ((k : ℕ) → k < 1024 → getD (now counts) k 0 ≡ 0) ⌝ }
-    ensures { λ r. ⌜ ((k : ℕ) → k < 1024 → getD (now (counts .exit)) k 0
-        ≡ cap (summaryIn (now (s .entry)) .classCap) (tally (λ x. eqb (classAt (summaryIn (now (s .entry))) x) k) n)) ⌝ }
+// The class of each item.
+fn put_classes(n: usize, s: &[u8], classes: &mut [u16])
+    requires { ⌜ Proposed (now s) n × (n ≤ length (now classes)) ⌝ }
+    ensures { λ r. ⌜ ((x : ℕ) → x < n → getD (now (classes .exit)) x 0 ≡ classAt (summaryIn (now (s .entry))) x) ⌝ }
 {
     let mut x = 0;
     while x < n {
-        let k = reader::class_of(s, Item(x as u16)).index();
-        let number = counts[k];
-        let counted = Capped { cap: nu, number }.one_more();
-        counts[k] = counted.number;
+        let class = reader::class_of(s, Item(x as u16));
+        classes[x] = class.0;
         x += 1;
     }
 }
@@ -57,12 +52,14 @@ pub fn counts_equal(n: usize, s: &[u8], nu: u8) -> bool
     ensures { λ r. ⌜ r ≡ all (λ k. eqb (classOf (summaryIn (now (s .entry))) k .count) (cap (summaryIn (now (s .entry)) .classCap)
         (tally (λ x. eqb (classAt (summaryIn (now (s .entry))) x) k) n))) (length (summaryIn (now (s .entry)) .classes)) ⌝ }
 {
-    let mut counts = [0u16; 1024];
-    put_counts(n, s, nu, &mut counts);
+    let mut classes = [0u16; 1024];
+    put_classes(n, s, &mut classes);
+    let counts = capped::by_class(&classes, n, nu);
     let c = reader::classes(s);
     let mut k = 0;
     while k < c {
-        if reader::count(s, Class(k as u16)) != counts[k] {
+        let counted = counts[k];
+        if reader::count(s, Class(k as u16)) != counted.number {
             return false;
         }
         k += 1;

@@ -26,13 +26,13 @@ fn key_or(s: &[u64], k: usize, p: usize, stop: u64) -> u64
 // Equal keys one after the other: where they end, and how many they are, capped.
 struct Run {
     end: usize,
-    count: u16,
+    count: Capped,
 }
 
 // The run of equal keys that starts at place p. "A capped count takes one more neighbour and gives back the capped count".
 fn run_from(s: &[u64], k: usize, p: usize, mu: u8) -> Run
     requires { ⌜ (k ≤ length (now s)) × (p < k) × (mu < 15) ⌝ }
-    ensures { λ r. ⌜ Alone (now (s .entry)) k p (r .end) × (r .count ≡ cap mu (r .end - p)) ⌝ }
+    ensures { λ r. ⌜ Alone (now (s .entry)) k p (r .end) × (r .count .number ≡ cap mu (r .end - p)) ⌝ }
 {
     let v = s[p];
     let mut count = Capped::none(mu).one_more();
@@ -44,10 +44,7 @@ fn run_from(s: &[u64], k: usize, p: usize, mu: u8) -> Run
         count = count.one_more();
         q += 1;
     }
-    Run {
-        end: q,
-        count: count.number,
-    }
+    Run { end: q, count }
 }
 
 // The rows of n items one after the other, and where each item's start: starts[x] for item x, starts[n] where all end.
@@ -73,7 +70,7 @@ pub fn put_rows(
         let v = key_or(s, k, p, stop);
         if v < stop {
             let run = run_from(s, k, p, mu);
-            rows[j] = v % KEYS * 16 + run.count as u64;
+            rows[j] = v % KEYS * 16 + run.count.number as u64;
             j += 1;
             p = run.end;
         } else {

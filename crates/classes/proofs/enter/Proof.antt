@@ -1,9 +1,9 @@
--- The first of a class gives marks and group; each is counted.
+-- The first of a class gives marks and group, and has the class's count written.
 use mathlib.Core.Path.{ap}
 use Prim.Native.Nat.{ℕ, _/_, _%_}
 use native.Mathlib.Omega.{arith}
 use lib.ListN.{length-set}
-use Rattle.classes.proofs.Laws.{enters-later, enters-first}
+use Rattle.classes.proofs.Laws.{enters-first}
 use borrow.Author.Needs.{needs}
 use Rattle.classes.proofs.enter.Statement.{statement}
 use Rattle.classes.proofs.enter.Tie as tie
@@ -20,25 +20,8 @@ mul-number c = search needs
 slice-read-number : tie.Need-slice-read-number
 slice-read-number c = search needs
 
-one-more-requires : tie.Need-one-more-requires
-one-more-requires c κs = search needs
-
-add-out : tie.Need-add-out
-add-out c = search needs
-
-mul-out : tie.Need-mul-out
-mul-out c = search needs
-
-slice-write-out : tie.Need-slice-write-out
-slice-write-out c = search needs
-
-same-length : tie.Need-same-length
-same-length c = search needs
-
 returns : tie.Need-returns
-returns c =
-    let s = c .before .before .before .before .before in
-    enters-later _ _ _ _ _ (s .pre .4) (s .pre .3) _ (c .before .if1 .taken) (c .one-more .ensures .number-is)
+returns c = search needs
 
 cast-out : tie.Need-cast-out
 cast-out c = search needs
@@ -49,14 +32,23 @@ marks-requires c κs = search needs
 cast-out-2 : tie.Need-cast-out-2
 cast-out-2 c = search needs
 
+mul-out : tie.Need-mul-out
+mul-out c = search needs
+
+slice-write-out : tie.Need-slice-write-out
+slice-write-out c = search needs
+
+cast-out-3 : tie.Need-cast-out-3
+cast-out-3 c = search needs
+
+add-out : tie.Need-add-out
+add-out c = search needs
+
 mul-out-2 : tie.Need-mul-out-2
 mul-out-2 c = search needs
 
 slice-write-out-2 : tie.Need-slice-write-out-2
-slice-write-out-2 c = search needs
-
-cast-out-3 : tie.Need-cast-out-3
-cast-out-3 c = search needs
+slice-write-out-2 c = simp length-set (omega arith)
 
 add-out-2 : tie.Need-add-out-2
 add-out-2 c = search needs
@@ -76,17 +68,8 @@ mul-out-4 c = search needs
 slice-write-out-4 : tie.Need-slice-write-out-4
 slice-write-out-4 c = simp length-set (omega arith)
 
-add-out-4 : tie.Need-add-out-4
-add-out-4 c = search needs
-
-mul-out-5 : tie.Need-mul-out-5
-mul-out-5 c = search needs
-
-slice-write-out-5 : tie.Need-slice-write-out-5
-slice-write-out-5 c = simp length-set (omega arith)
-
-same-length-2 : tie.Need-same-length-2
-same-length-2 c = search needs
+same-length : tie.Need-same-length
+same-length c = search needs
 
 returns-2 : tie.Need-returns-2
 returns-2 c =
@@ -102,26 +85,21 @@ enter-spec =
     add-number
     mul-number
     slice-read-number
-    one-more-requires
-    add-out
-    mul-out
-    slice-write-out
-    same-length
     returns
     cast-out
     marks-requires
     cast-out-2
+    mul-out
+    slice-write-out
+    cast-out-3
+    add-out
     mul-out-2
     slice-write-out-2
-    cast-out-3
     add-out-2
     mul-out-3
     slice-write-out-3
     add-out-3
     mul-out-4
     slice-write-out-4
-    add-out-4
-    mul-out-5
-    slice-write-out-5
-    same-length-2
+    same-length
     returns-2)
