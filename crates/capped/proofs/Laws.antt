@@ -47,19 +47,20 @@ exact-tells c x s =
 pub threshold-tells : (c : Capped) (x t : ℕ) → t ≤ c .cap + 1 → Stands c x → leb t (c .number) ≡ leb t x
 threshold-tells c x t h s = rw (cap-stands c x s) (leb-capped (c .cap) t x h)
 
--- ---- the items of each class
+-- ---- the items of each class: so many of the first x are of class k
 
 module _ (of : List ℕ) where
   abbrev among : ℕ → ℕ → ℕ
   among k x = tally (λ y. eqb (getD of y 0) k) x
 
-  own : (x k : ℕ) → getD of x 0 ≡ k → among k (x + 1) ≡ among k x + 1
+  -- item x is of class k, or is not
+  pub tally-own : (x k : ℕ) → getD of x 0 ≡ k → among k (x + 1) ≡ among k x + 1
   unfolding sum
-  own x k e = rw (add-one x, eq-eqb (getD of x 0) k e)
+  tally-own x k e = rw (add-one x, eq-eqb (getD of x 0) k e)
 
-  other : (x k : ℕ) → (getD of x 0 ≡ k → ⊥) → among k (x + 1) ≡ among k x
+  pub tally-other : (x k : ℕ) → (getD of x 0 ≡ k → ⊥) → among k (x + 1) ≡ among k x
   unfolding sum
-  other x k e = rw (add-one x, ne-eqb (getD of x 0) k e) (omega arith)
+  tally-other x k e = rw (add-one x, ne-eqb (getD of x 0) k e) (omega arith)
 
   -- nothing is counted yet
   pub none-counted : (ν : ℕ) (c : Capped) → Starts ν c → ByClass (replicate 1024 c) of 0 ν
@@ -98,8 +99,8 @@ module _ (of : List ℕ) where
               (λ e.
               subst (λ (i : ℕ). Stands (countAt next i) (among i (x + 1))) (sym e)
               (subst (λ (f : Capped). Stands f (among (getD of x 0) (x + 1))) (sym here)
-              (rw (own x (getD of x 0) refl) (takes-stands _ d _ 1 (b .stands (getD of x 0) below) takes))))
-              (λ e. subst (λ (f : Capped). Stands f (among k (x + 1))) (sym (elsewhere k e)) (rw (other x k (λ z. e (sym z))) (b .stands k h)));
+              (rw (tally-own x (getD of x 0) refl) (takes-stands _ d _ 1 (b .stands (getD of x 0) below) takes))))
+              (λ e. subst (λ (f : Capped). Stands f (among k (x + 1))) (sym (elsewhere k e)) (rw (tally-other x k (λ z. e (sym z))) (b .stands k h)));
         }
 
 -- what the file has: the count of each class, capped

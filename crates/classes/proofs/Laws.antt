@@ -4,8 +4,7 @@ use mathlib.Core.Bool.{Bool, true, false}
 use mathlib.Core.List.{List, [], _∷_, _++_}
 use Prim.Native.Nat.{ℕ, zero, suc, _+_, _*_, _/_, _%_, _≤_, _<_}
 use native.Mathlib.Omega.{arith}
-use native.Mathlib.Numerals.{add-one}
-use borrow.Author.Tests.{eq-eqb, ne-eqb}
+use borrow.Author.Tests.{eq-eqb}
 use lib.Dec.{eqb}
 use lib.ListN.{length, getD, set, take, drop, replicate, length-set, getD-replicate}
 use lib.Seq.{take-add, drop-cons, getD-take, length-take-le, getD-set-same, getD-set-other}
@@ -20,6 +19,7 @@ use Rattle.promise.proofs.Access.{items-at, readable}
 use Rattle.meaning.specs.RegisterFile.{registerIn}
 use Rattle.wire.proofs.Sets.{pack-tab}
 use Rattle.summary.specs.Numbers.{classNumbers}
+use Rattle.capped.proofs.Laws.{tally-own, tally-other}
 use Rattle.classes.specs.Counted.{part, Sorted, Enters, Numbered}
 
 -- ---- an item entered
@@ -112,14 +112,6 @@ module _ (R : Register) (gs cs : List ℕ) (ν : ℕ) where
   -- one item more
   module _ (u v : List ℕ) (x count : ℕ) (below : x < length cs) (counted : count ≡ cap ν (among (by cs x) (length cs)))
       (enters : Enters u v (by cs x) (marksOf R x) (by gs x) count) where
-    same-class : (k : ℕ) → by cs x ≡ k → among k (x + 1) ≡ among k x + 1
-    unfolding sum
-    same-class k e = rw (add-one x, eq-eqb (by cs x) k e)
-
-    other-class : (k : ℕ) → (by cs x ≡ k → ⊥) → among k (x + 1) ≡ among k x
-    unfolding sum
-    other-class k e = rw (add-one x, ne-eqb (by cs x) k e) (omega arith)
-
     lowest-here : (k : ℕ) → by cs x ≡ k → among k x ≡ 0 → lowestItem cs k ≡ x
     unfolding lowestItem
     lowest-here k e z = first-found (λ y. eqb (getD cs y 0) k) x (length cs) below z (eq-eqb (by cs x) k e)
@@ -127,7 +119,7 @@ module _ (R : Register) (gs cs : List ℕ) (ν : ℕ) where
     own : Under u x (by cs x) → Under v (x + 1) (by cs x)
     own w =
         let k = by cs x in
-        let more = same-class k refl in
+        let more = tally-own cs x k refl in
         let some : among k x < among k (length cs) = tally-lt (λ y. eqb (by cs y) k) x (length cs) (eq-eqb k k refl) below in
         by-eq (among k x) 0
         (λ z.
@@ -141,7 +133,7 @@ module _ (R : Register) (gs cs : List ℕ) (ν : ℕ) where
 
     other : (k : ℕ) → (k ≡ by cs x → ⊥) → Under u x k → Under v (x + 1) k
     other k e w =
-        let same = other-class k (λ f. e (sym f)) in
+        let same = tally-other cs x k (λ f. e (sym f)) in
         let kept : (j : ℕ) → j < 4 → part v k j ≡ part u k j = λ j h. enters .others k j h e in
         record {
           empty = λ g. kept 3 (omega arith) ∙ w .empty (omega arith);

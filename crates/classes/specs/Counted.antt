@@ -24,7 +24,7 @@ pub record Sorted (b : List ℕ) (n : ℕ) (groups classes : List ℕ) : Type 0 
   pub few : classCount (take n classes) ≤ 1024
   pub used : (k : ℕ) → k < classCount (take n classes) → lowestItem (take n classes) k < n
 
--- v is u with an item of class k entered, of those marks and that group, where the class has so many items: the first of a class enters it
+-- v is u with an item of class k entered, of those marks and that group: the first of a class gives it its record, with how many items it has
 pub record Enters (u v : List ℕ) (k marks group count : ℕ) : Type 0 where
   pub others : (k′ j : ℕ) → j < 4 → (k′ ≡ k → ⊥) → part v k′ j ≡ part u k′ j
   pub first : part u k 3 ≡ 0 → (part v k 0 ≡ marks / 65536) × (part v k 1 ≡ marks % 65536) × (part v k 2 ≡ group) × (part v k 3 ≡ count)

@@ -1,5 +1,5 @@
 // The class records of a summary: "Class, eight bytes: marks (four), group, item count capped at ν." The items of each class are counted
-// first; then the items are gone through in order, and the first of a class enters it. Leans on capped for the counts.
+// first; then the items are gone through in order, and the first of a class gives it its record. Leans on capped for the counts.
 use capped::Capped;
 use names::Item;
 ghost use mathlib.Core.Path.{_≡_};
@@ -26,7 +26,7 @@ pub fn records(reg: &[u8], n: usize, groups: &[u16], classes: &[u16], nu: u8) ->
     out
 }
 
-// Item x, of a class of so many items: the first of a class enters it, with its own marks and group.
+// Item x, of a class of so many items: the first of a class gives it its record, with its own marks and group.
 fn enter(reg: &[u8], x: usize, group: u16, class: u16, count: Capped, out: &mut [u16])
     requires { ⌜ (fault (now reg) ≡ 0) × (x < items (registerIn (now reg))) × (x < 1024) × (class < 1024) × (length (now out) ≡ 4096) ⌝ }
     ensures { λ r. ⌜ Enters (now (out .entry)) (now (out .exit)) class (marksOf (registerIn (now (reg .entry))) x) group (count .number) ⌝ }
