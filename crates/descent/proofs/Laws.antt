@@ -3,7 +3,7 @@
 use mathlib.Core.Path.{_≡_, refl, sym, ap, subst, _∙_}
 use mathlib.Core.Bool.{Bool, true, false, not, cond, _&&_}
 use mathlib.Core.Logic.{_⊎_, ⊎-elim}
-use mathlib.Core.List.{List}
+use mathlib.Core.List.{List, [], _∷_}
 use mathlib.Core.Option.{some}
 use Prim.Native.Nat.{ℕ, _+_, _-_, _≤_, _<_}
 use native.Mathlib.Omega.{arith}
@@ -26,15 +26,18 @@ use Rattle.entry.specs.Entries.{entryAt}
 use Rattle.question.specs.Read.{Parsed, Spans}
 use Rattle.question.proofs.Laws.{parsed-true, parsed-literal, parsed-not, parsed-least, parsed-one}
 use Rattle.question.proofs.Steps.{Two}
-use Rattle.question.specs.declared.Asked.{Asked}
-use Rattle.question.specs.declared.Asked.the-variants.{Said, Refused}
-use Rattle.memo.specs.Kept.{Tells, turned, any, decides}
+use Rattle.memo.specs.Kept.{any}
 use Rattle.memo.proofs.Laws.{joins, decided, undecided, operands}
 use Rattle.register.specs.Told.{OfRegister}
 use Rattle.register.proofs.Laws.{limits}
 use Rattle.nearby.specs.Nearby.{Last, Outs, Ins}
 use Rattle.nearby.proofs.Laws.{count-last, count-own, count-all}
-use Rattle.descent.specs.Around.{reaching, leading}
+use Rattle.descent.specs.declared.Descended.{Descended}
+use Rattle.descent.specs.declared.Descended.the-variants.{Said, OutOfSteps, Refused}
+use Rattle.descent.specs.Around.{reaching, leading, Tells, turned, decides}
+use Rattle.descent.proofs.Descended.{the-type}
+use types.Run.{OneOf}
+use denote.Enum.Declared.{tagOf}
 
 -- ---- what is said, and what is not
 
@@ -47,6 +50,25 @@ module _ (q : List ℕ) (i : ℕ) (so : Question → Bool) where
 
   pub tells-refused : (r : Refusal) → Tells q i so (Refused r)
   tells-refused r t k p b e = absurd (let z : _≡_ {A = ℕ} 0 1 = cc in omega arith)
+
+  pub tells-tired : Tells q i so OutOfSteps
+  tells-tired t k p b e = absurd (let z : _≡_ {A = ℕ} 0 1 = cc in omega arith)
+
+  -- what is not said is passed on
+  pub tells-unsaid : (r : Descended) → OneOf (1 ∷ 2 ∷ []) (tagOf the-type r) → Tells q i so r
+  tells-unsaid (Said b) h = absurd (⊎-elim (λ e. omega arith) (λ e. omega arith) h)
+  tells-unsaid OutOfSteps h = tells-tired
+  tells-unsaid (Refused r) h = tells-refused r
+
+pub turned-unsaid : (r : Descended) → OneOf (1 ∷ 2 ∷ []) (tagOf the-type r) → r ≡ turned r
+turned-unsaid (Said b) h = absurd (⊎-elim (λ e. omega arith) (λ e. omega arith) h)
+turned-unsaid OutOfSteps h = refl
+turned-unsaid (Refused r) h = refl
+
+pub decides-unsaid : (k : Kind) (r : Descended) → OneOf (1 ∷ 2 ∷ []) (tagOf the-type r) → true ≡ decides k r
+decides-unsaid k (Said b) h = absurd (⊎-elim (λ e. omega arith) (λ e. omega arith) h)
+decides-unsaid k OutOfSteps h = refl
+decides-unsaid k (Refused r) h = refl
 
 -- ---- whether an entry holds, by its kind
 
@@ -68,24 +90,26 @@ module _ (q : List ℕ) (i : ℕ) (R : Register) (x : ℕ) where
   unfolding holds
   tells-literal z m r e f g = tells-said q i here r (λ t k p. rw (parsed-literal p e .0) (g ∙ ap (λ (m : ℕ). shows m z) f))
 
-  pub tells-not : (r : Asked) → entryAt q i ≡ some Not → Tells q (i + 1) here r → Tells q i here (turned r)
+  pub tells-not : (r : Descended) → entryAt q i ≡ some Not → Tells q (i + 1) here r → Tells q i here (turned r)
   unfolding holds
   tells-not (Said d) e f = tells-said q i here (not d) (λ t k p. let o = parsed-not p e in rw (o .1) (ap not (f (o .0) k (o .2) d refl)))
+  tells-not OutOfSteps e f = tells-tired q i here
   tells-not (Refused r) e f = tells-refused q i here r
 
   module _ (kind : Kind) (two : Two kind) (e : entryAt q i ≡ some kind) where
     -- the first operand decides
-    pub tells-first : (a : Asked) → Tells q (i + 1) here a → decides kind a ≡ true → Tells q i here a
+    pub tells-first : (a : Descended) → Tells q (i + 1) here a → decides kind a ≡ true → Tells q i here a
     tells-first (Said d) first h =
         tells-said q i here d
         (λ t k p.
         let o = operands-here q i R x kind two e t k p in
         let says = first (o .0) (o .2) (o .4) d refl in
         says ∙ sym (o .3 ∙ decided (any kind) (holds R (o .0) x) (holds R (o .1) x) (subst (λ (b : Bool). cond (any kind) b (not b) ≡ true) says h)))
+    tells-first OutOfSteps first h = tells-tired q i here
     tells-first (Refused r) first h = tells-refused q i here r
 
     -- or the second does
-    pub tells-second : (a : Asked) → Tells q (i + 1) here a → decides kind a ≡ false → (s : Spanned) → Spans q (i + 1) s → (d m j : ℕ) (r : Asked) → s ≡ Tree d m j →
+    pub tells-second : (a : Descended) → Tells q (i + 1) here a → decides kind a ≡ false → (s : Spanned) → Spans q (i + 1) s → (d m j : ℕ) (r : Descended) → s ≡ Tree d m j →
         Tells q j here r → Tells q i here r
     unfolding Spans
     tells-second (Said c) first h s spans d m j r f g t k p b z =
@@ -94,9 +118,10 @@ module _ (q : List ℕ) (i : ℕ) (R : Register) (x : ℕ) where
         let one : Spans q (i + 1) (Tree d m j) = rw f at spans in
         g (o .1) k (subst (λ (y : ℕ). Parsed q y (o .1) k) (parsed-one (o .4) (one .1) .1) (o .5)) b z
         ∙ sym (o .3 ∙ undecided (any kind) (holds R (o .0) x) (holds R (o .1) x) (subst (λ (b : Bool). cond (any kind) b (not b) ≡ false) says h))
+    tells-second OutOfSteps first h s spans d m j r f g t k p b z = absurd (let z : _≡_ {A = ℕ} 0 1 = cc in omega arith)
     tells-second (Refused v) first h s spans d m j r f g t k p b z = absurd (let z : _≡_ {A = ℕ} 0 1 = cc in omega arith)
 
-  pub tells-least : (d : Direction) (l n : ℕ) (r : Asked) → entryAt q i ≡ some (AtLeast d l n) → Tells q (i + 1) (reaching R d l n x) r → Tells q i here r
+  pub tells-least : (d : Direction) (l n : ℕ) (r : Descended) → entryAt q i ≡ some (AtLeast d l n) → Tells q (i + 1) (reaching R d l n x) r → Tells q i here r
   unfolding holds
   tells-least d l n r e f t k p b z = let o = parsed-least p e in rw (o .1) (f (o .0) k (o .2) b z)
 
@@ -114,7 +139,7 @@ module _ (q : List ℕ) (i : ℕ) (R : Register) (d : Direction) (l x : ℕ) whe
       omega (arith, below)
 
   -- the link before place p is asked
-  module _ (met p : ℕ) (f : Met q i R d l x met p) (h : 1 ≤ p) (own : near d (linkOf R (p - 1)) ≡ x) (y : Asked) (b : Bool) (e : y ≡ Said b) (says : Tells q i (leading R d l (p - 1)) y) where
+  module _ (met p : ℕ) (f : Met q i R d l x met p) (h : 1 ≤ p) (own : near d (linkOf R (p - 1)) ≡ x) (y : Descended) (b : Bool) (e : y ≡ Said b) (says : Tells q i (leading R d l (p - 1)) y) where
     counted : (t : Question) (k : ℕ) → Parsed q i t k → met + cond b 1 0 + tally (λ k. leads d l (holds R t) x (linkOf R k)) (p - 1) ≡ neighbours R d l (holds R t) x
     counted t k u =
         let one = count-own R d l (holds R t) x p h own in

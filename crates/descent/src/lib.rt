@@ -14,16 +14,31 @@ ghost use lib.ListN.{length};
 ghost use Rattle.meaning.specs.Question as meant;
 ghost use Rattle.meaning.specs.RegisterFile.{registerIn};
 ghost use Rattle.register.specs.Told.{OfRegister};
-ghost use Rattle.memo.specs.Kept.{Tells, Remembers};
+ghost use Rattle.memo.specs.Kept.{Remembers};
 ghost use Rattle.nearby.specs.Nearby.{Outs, Ins};
-ghost use Rattle.descent.specs.Around.{Around, reaching, leading, unsaid, Cleared};
+ghost use Rattle.descent.specs.Around.{Around, Tells, reaching, leading, Cleared};
+ghost use Rattle.descent.specs.Around as around;
 
 // So many operands are asked one by one; a question that needs more is better asked at all items at once.
 const MOST_STEPS: u16 = 4096;
 
+// Whether a question holds where it was asked, as far as the steps go. Out of steps is no refusal: nothing is said, and who asked asks at all
+// items at once.
+pub enum Descended {
+    Said(bool),
+    OutOfSteps,
+    Refused(Refusal),
+}
+
+// Whether some entry asks for incoming neighbours.
+enum Incoming {
+    Wanted(bool),
+    Refused(Refusal),
+}
+
 // Whether the question, which has that depth, holds at the item, if that is soon said. Where no at-least stands inside another, nothing is
 // worth keeping.
-pub fn ask(reg: &[u8], n: usize, m: usize, q: &[u8], depth: usize, x: Item) -> Asked
+pub fn ask(reg: &[u8], n: usize, m: usize, q: &[u8], depth: usize, x: Item) -> Descended
     requires { ⌜ OfRegister (now reg) n m × (x .0 < n) ⌝ }
     ensures { λ r. ⌜ Tells (now (q .entry)) 0 (λ t. meant.holds (registerIn (now (reg .entry))) t (x .0)) r ⌝ }
 {
@@ -33,15 +48,26 @@ pub fn ask(reg: &[u8], n: usize, m: usize, q: &[u8], depth: usize, x: Item) -> A
         let none = [0u16; 1];
         return holds(q, 0, reg, n, m, &none, &none, &mut nothing, &mut steps, x);
     }
+    let Incoming::Wanted(incoming) = asks_incoming(q) else {
+        return Descended::Refused(Refusal::Question);
+    };
     let mut outs = [0u16; 1024];
     let mut ins = [0u16; 3072];
     let long = put_outs(reg, n, m, q, &mut outs);
-    let wide = put_ins(reg, n, m, q, &mut ins);
+    let wide = put_ins(reg, n, m, incoming, &mut ins);
     ask_deep(reg, n, m, q, &outs[0..long], &ins[0..wide], x)
 }
 
 // A question of 16 entries needs less room for what is kept, which is quicker cleared.
-fn ask_deep(reg: &[u8], n: usize, m: usize, q: &[u8], outs: &[u16], ins: &[u16], x: Item) -> Asked
+fn ask_deep(
+    reg: &[u8],
+    n: usize,
+    m: usize,
+    q: &[u8],
+    outs: &[u16],
+    ins: &[u16],
+    x: Item,
+) -> Descended
     requires { ⌜ Around (now reg) n m (now outs) (now ins) × (x .0 < n) ⌝ }
     ensures { λ r. ⌜ Tells (now (q .entry)) 0 (λ t. meant.holds (registerIn (now (reg .entry))) t (x .0)) r ⌝ }
 {
@@ -67,27 +93,46 @@ fn put_outs(reg: &[u8], n: usize, m: usize, q: &[u8], outs: &mut [u16]) -> usize
 }
 
 // The incoming links of each item, made where the question asks for incoming neighbours; how much of it was made.
-fn put_ins(reg: &[u8], n: usize, m: usize, q: &[u8], ins: &mut [u16]) -> usize
+fn put_ins(reg: &[u8], n: usize, m: usize, incoming: bool, ins: &mut [u16]) -> usize
     requires { ⌜ OfRegister (now reg) n m × (length (now ins) ≡ 3072) × Cleared (now ins) ⌝ }
     ensures { λ r. ⌜ (r ≤ 3072) × (length (now (ins .exit)) ≡ 3072) × (r ≡ 3072 → Ins (registerIn (now (reg .entry))) (now (ins .exit))) ⌝ }
 {
-    if !asks_incoming(q) {
+    if !incoming {
         return 0;
     }
     nearby::put_ins(reg, n, m, ins);
     3072
 }
 
-// Whether some entry's first byte is "32–47", or more.
-fn asks_incoming(q: &[u8]) -> bool {
+// Entry by entry, up to the first that does.
+fn asks_incoming(q: &[u8]) -> Incoming {
     let mut j = 0;
     while j < q.len() / 4 {
-        if 32 <= q[4 * j] {
-            return true;
+        let Reading::Entry(kind) = entry::read(q, j) else {
+            return Incoming::Refused(Refusal::Question);
+        };
+        if is_incoming(kind) {
+            return Incoming::Wanted(true);
         }
         j += 1;
     }
-    false
+    Incoming::Wanted(false)
+}
+
+// Whether the entry is one of "the same, incoming".
+fn is_incoming(kind: Kind) -> bool {
+    let Kind::AtLeast {
+        direction,
+        label: _,
+        threshold: _,
+    } = kind
+    else {
+        return false;
+    };
+    match direction {
+        Direction::Outgoing => false,
+        Direction::Incoming => true,
+    }
 }
 
 // Whether the tree at entry `at` holds at the item.
@@ -102,21 +147,21 @@ fn holds(
     known: &mut [u8],
     steps: &mut [u16],
     x: Item,
-) -> Asked
+) -> Descended
     requires { ⌜ Around (now reg) n m (now outs) (now ins) × Remembers (now q) (meant.holds (registerIn (now reg))) (now known) × (x .0 < n) ⌝ }
     ensures { λ r. ⌜ Tells (now (q .entry)) at (λ t. meant.holds (registerIn (now (reg .entry))) t (x .0)) r ⌝ }
     ensures known { λ _. ⌜ Remembers (now (q .entry)) (meant.holds (registerIn (now (reg .entry)))) (now (known .exit)) ⌝ }
 {
     let Reading::Entry(kind) = entry::read(q, at) else {
-        return Asked::Refused(Refusal::Question);
+        return Descended::Refused(Refusal::Question);
     };
     match kind {
-        Kind::True => Asked::Said(true),
-        Kind::Literal(literal) => Asked::Said(entry::shows(register::marks(reg, x), literal)),
-        Kind::Not => memo::turned(holds(q, at + 1, reg, n, m, outs, ins, known, steps, x)),
+        Kind::True => Descended::Said(true),
+        Kind::Literal(literal) => Descended::Said(entry::shows(register::marks(reg, x), literal)),
+        Kind::Not => turned(holds(q, at + 1, reg, n, m, outs, ins, known, steps, x)),
         Kind::And | Kind::Or => {
             let first = holds(q, at + 1, reg, n, m, outs, ins, known, steps, x);
-            if memo::decides(kind, first) {
+            if decides(kind, first) {
                 return first;
             }
             let Spanned::Tree {
@@ -125,7 +170,7 @@ fn holds(
                 next,
             } = question::span(q, at + 1)
             else {
-                return Asked::Refused(Refusal::Question);
+                return Descended::Refused(Refusal::Question);
             };
             holds(q, next, reg, n, m, outs, ins, known, steps, x)
         }
@@ -167,7 +212,7 @@ fn reaches(
     label: u8,
     threshold: u8,
     x: Item,
-) -> Asked
+) -> Descended
     requires { ⌜ Around (now reg) n m (now outs) (now ins) × Remembers (now q) (meant.holds (registerIn (now reg))) (now known) × (1 ≤ threshold)
         × (threshold ≤ 8) × (x .0 < n) ⌝ }
     ensures { λ r. ⌜ Tells (now (q .entry)) at (reaching (registerIn (now (reg .entry))) way label threshold (x .0)) r ⌝ }
@@ -176,7 +221,7 @@ fn reaches(
     let mut met = 0;
     let mut place = nearby::last(reg, n, m, outs, ins, way, x);
     while 0 < place {
-        let Asked::Said(yes) = leads(
+        let led = leads(
             q,
             at,
             reg,
@@ -189,16 +234,17 @@ fn reaches(
             way,
             label,
             place - 1,
-        ) else {
-            return tired();
+        );
+        let Descended::Said(yes) = led else {
+            return led;
         };
         met = added(met, yes);
         if met == threshold {
-            return Asked::Said(true);
+            return Descended::Said(true);
         }
         place = nearby::before(reg, n, m, ins, way, x, place);
     }
-    Asked::Said(false)
+    Descended::Said(false)
 }
 
 // One more, where the operand holds.
@@ -223,35 +269,49 @@ fn leads(
     way: Direction,
     label: u8,
     link: usize,
-) -> Asked
+) -> Descended
     requires { ⌜ Around (now reg) n m (now outs) (now ins) × Remembers (now q) (meant.holds (registerIn (now reg))) (now known) × (link < m) ⌝ }
     ensures { λ r. ⌜ Tells (now (q .entry)) at (leading (registerIn (now (reg .entry))) way label link) r ⌝ }
     ensures known { λ _. ⌜ Remembers (now (q .entry)) (meant.holds (registerIn (now (reg .entry)))) (now (known .exit)) ⌝ }
 {
     if register::label(reg, n, link) != label {
-        return Asked::Said(false);
+        return Descended::Said(false);
     }
     let neighbour = register::far(reg, n, link, way);
     let slot = memo::slot_of(at, neighbour.0);
     let told = memo::recalled(known, slot);
     if told != 0 {
-        return Asked::Said(told == 2);
+        return Descended::Said(told == 2);
     }
     if spent(steps) {
-        return tired();
+        return Descended::OutOfSteps;
     }
-    let Asked::Said(yes) = holds(q, at, reg, n, m, outs, ins, known, steps, neighbour) else {
-        return tired();
+    let there = holds(q, at, reg, n, m, outs, ins, known, steps, neighbour);
+    let Descended::Said(yes) = there else {
+        return there;
     };
     memo::remember(known, slot, yes);
-    Asked::Said(yes)
+    Descended::Said(yes)
 }
 
-// Out of steps. No refusal of a question: it is no more than "not said", and who asked asks at all items at once.
-fn tired() -> Asked
-    ensures { λ r. ⌜ r ≡ unsaid ⌝ }
+// "not, one operand".
+fn turned(operand: Descended) -> Descended
+    ensures { λ r. ⌜ r ≡ around.turned operand ⌝ }
 {
-    Asked::Refused(Refusal::Room)
+    let Descended::Said(yes) = operand else {
+        return operand;
+    };
+    Descended::Said(!yes)
+}
+
+// "and, or, two operands": whether the first one's answer is the whole's, so that the second need not be asked.
+fn decides(kind: Kind, first: Descended) -> bool
+    ensures { λ r. ⌜ r ≡ around.decides kind first ⌝ }
+{
+    let Descended::Said(yes) = first else {
+        return true;
+    };
+    memo::decides(kind, Asked::Said(yes))
 }
 
 // One step less; none was left.

@@ -29,9 +29,10 @@ use Rattle.question.specs.declared.Spanned.the-variants.{Tree, Refused}
 use Rattle.question.specs.Read.{Parsed, Spans}
 use Rattle.question.proofs.Laws.{forward, ends, parsed-true, parsed-literal, parsed-not, parsed-and, parsed-or, parsed-least, parsed-one, parsed-question, question-length, everywhere, every-entry}
 use Rattle.table.specs.Row.{row, Writes, paired}
-use Rattle.question.specs.declared.Asked.{Asked}
 use Rattle.question.specs.declared.Asked.the-variants.{Said}
-use Rattle.memo.specs.Kept.{Tells}
+use Rattle.descent.specs.declared.Descended.{Descended}
+use Rattle.descent.specs.declared.Descended.the-variants as descended
+use Rattle.descent.specs.Around.{Tells}
 use Rattle.inquiry.specs.Known.{Whole, Known, pairKind, asked}
 
 -- what is written is what it is equal to
@@ -105,7 +106,7 @@ unfolding asked
 known-all R q n t x w h k = k .knows 0 (omega arith) (w .tree) (length q / 4) (parsed-question q (w .tree) (w .reads)) x h ∙ sym (rw (w .reads))
 
 -- what is said of the tree at entry 0 is said of the question
-pub told-so : (R : Register) (q : List ℕ) (x : ℕ) → Whole q → (r : Asked) → Tells q 0 (λ t. holds R t x) r → (b : Bool) → r ≡ Said b → Said b ≡ Said (asked R (question q) x)
+pub told-so : (R : Register) (q : List ℕ) (x : ℕ) → Whole q → (r : Descended) → Tells q 0 (λ t. holds R t x) r → (b : Bool) → r ≡ descended.Said b → Said b ≡ Said (asked R (question q) x)
 unfolding asked
 told-so R q x w r tells b e =
     ap (λ (b : Bool). Said b) (tells (w .tree) (length q / 4) (parsed-question q (w .tree) (w .reads)) b e ∙ sym (ap (λ (o : Option Question). asked R o x) (w .reads)))

@@ -1,6 +1,7 @@
 // A question asked of a register: from the item downwards, where few items have to be asked, and else of all items at once. Then, from the
 // last entry to the first, it is kept for every entry and item whether the entry holds there, so that a question costs no more than about
 // n + m steps an entry. Leans on descent for the first and on table for the second.
+use descent::Descended;
 use entry::Reading;
 use meaning::Direction;
 use meaning::Kind;
@@ -24,12 +25,13 @@ ghost use Rattle.table.specs.Row.{Room, row, Writes};
 ghost use Rattle.register.specs.Told.{OfRegister};
 ghost use Rattle.inquiry.specs.Known.{Whole, Known, Fills, pairKind, asked, Said};
 
-// "On a register, neighbours are counted exactly and any depth is allowed."
+// "On a register, neighbours are counted exactly and any depth is allowed." What a descent leaves unsaid, for want of steps, is asked of all
+// items.
 pub fn ask(reg: &[u8], n: usize, m: usize, q: &[u8], depth: usize, x: Item) -> Asked
     requires { ⌜ OfRegister (now reg) n m × Whole (now q) × (x .0 < n) ⌝ }
     ensures { λ r. ⌜ Said r (asked (registerIn (now (reg .entry))) (question (now (q .entry))) (x .0)) ⌝ }
 {
-    let Asked::Said(yes) = descent::ask(reg, n, m, q, depth, x) else {
+    let Descended::Said(yes) = descent::ask(reg, n, m, q, depth, x) else {
         return ask_all(reg, n, m, q, x);
     };
     Asked::Said(yes)

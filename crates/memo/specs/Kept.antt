@@ -14,10 +14,6 @@ use Rattle.question.specs.Read.{Parsed}
 use Rattle.question.specs.declared.Asked.{Asked}
 use Rattle.question.specs.declared.Asked.the-variants.{Said, Refused}
 
--- what is said of the tree at entry i is so
-abbrev pub Tells : List ℕ → ℕ → (Question → Bool) → Asked → Type 0
-Tells q i so r = (t : Question) (k : ℕ) → Parsed q i t k → (b : Bool) → r ≡ Said b → b ≡ so t
-
 -- "not, one operand"
 abbrev pub turned : Asked → Asked
 turned (Said b) = Said (not b)

@@ -15,7 +15,7 @@ use Rattle.entry.proofs.Laws.{is-entry, within-entry, literal-back, literal-rea
 use Rattle.question.proofs.Steps.{two-of}
 use Rattle.memo.specs.Kept.{Remembers}
 use Rattle.memo.proofs.Laws.{spans-on, recalled-so, remembers-kept}
-use Rattle.descent.proofs.Laws.{tells-refused, tells-true, tells-literal, tells-not, tells-first, tells-second, tells-least, Met, met-none, met-one, met-enough, met-all, Own, own-link, cond-most, item-few, leads-other, leads-there}
+use Rattle.descent.proofs.Laws.{tells-refused, tells-tired, tells-unsaid, tells-true, tells-literal, tells-not, tells-first, tells-second, tells-least, Met, met-none, met-one, met-enough, met-all, Own, own-link, cond-most, item-few, leads-other, leads-there}
 use borrow.Author.Needs.{needs}
 use borrow.Fn.Kinds.{In}
 use borrow.Fn.PlainCycle.{Measures, is, falls, and}
@@ -29,13 +29,12 @@ use Rattle.descent.proofs.reaches.Reads as reaches
 use Rattle.descent.proofs.reaches.Kinds as reaches-kinds
 use Rattle.descent.proofs.+holds+leads+reaches.Lts-reaches as reaches-lts
 use Rattle.descent.proofs.added.Reads as added-reads
+use Rattle.descent.proofs.decides.Reads as decides-reads
 use Rattle.descent.proofs.spent.Reads as spent-reads
-use Rattle.descent.proofs.tired.Reads as tired-reads
-use Rattle.memo.proofs.decides.Reads as decides-reads
+use Rattle.descent.proofs.turned.Reads as turned-reads
 use Rattle.memo.proofs.recalled.Reads as recalled-reads
 use Rattle.memo.proofs.remember.Reads as remember-reads
 use Rattle.memo.proofs.slot_of.Reads as slot-of-reads
-use Rattle.memo.proofs.turned.Reads as turned-reads
 use Rattle.nearby.proofs.before.Reads as before-reads
 use Rattle.nearby.proofs.last.Reads as last-reads
 use Rattle.entry.proofs.read.Reads as read-reads
@@ -107,8 +106,6 @@ leads-given t = (
   recalled-reads.Learnt,
   spent-reads.Asked,
   spent-reads.Learnt,
-  tired-reads.Asked,
-  tired-reads.Learnt,
   holds-below t,
   holds.Post,
   remember-reads.Asked,
@@ -121,8 +118,6 @@ reaches-given t = (
   last-reads.Learnt,
   leads-below t,
   leads.Post,
-  tired-reads.Asked,
-  tired-reads.Learnt,
   added-reads.Asked,
   added-reads.Learnt,
   before-reads.Asked,
@@ -360,9 +355,6 @@ leads-returns-2 t c =
 leads-spent-requires : (t : ℕ) → leads-lts.Need-spent-requires (leads-given t) (leads-at t) leads.Post
 leads-spent-requires t c κs = search needs
 
-leads-tired-requires : (t : ℕ) → leads-lts.Need-tired-requires (leads-given t) (leads-at t) leads.Post
-leads-tired-requires t c κs = search needs
-
 leads-same-length-2 : (t : ℕ) → leads-lts.Need-same-length-2 (leads-given t) (leads-at t) leads.Post
 leads-same-length-2 t c = search needs
 
@@ -370,10 +362,7 @@ leads-same-length-3 : (t : ℕ) → leads-lts.Need-same-length-3 (leads-given t)
 leads-same-length-3 t c = search needs
 
 leads-returns-3 : (t : ℕ) → leads-lts.Need-returns-3 (leads-given t) (leads-at t) leads.Post
-leads-returns-3 t c = (
-  rw (c .tired .ensures) (tells-refused _ _ _ _),
-  c .before .before .before .before .before .before .before .before .before .before .before .before .before .before .before .before .before .before .before .pre .1 .1,
-)
+leads-returns-3 t c = (tells-tired _ _ _, c .before .before .before .before .before .before .before .before .before .before .before .before .before .before .before .before .before .before .pre .1 .1)
 
 leads-holds-requires : (t : ℕ) → leads-lts.Need-holds-requires (leads-given t) (leads-at t) leads.Post
 leads-holds-requires t c κs =
@@ -383,14 +372,8 @@ leads-holds-requires t c κs =
       (s .pre .1 .0, s .pre .1 .1, c .before .before .before .before .before .before .before .before .before .before .before .far .ensures .1),
     )
 
-leads-enum-known-yes : (t : ℕ) → leads-lts.Need-enum-known-yes (leads-given t) (leads-at t) leads.Post
-leads-enum-known-yes t c = search needs
-
-leads-enum-told : (t : ℕ) → leads-lts.Need-enum-told (leads-given t) (leads-at t) leads.Post
-leads-enum-told t c = search needs
-
-leads-tired-requires-2 : (t : ℕ) → leads-lts.Need-tired-requires-2 (leads-given t) (leads-at t) leads.Post
-leads-tired-requires-2 t c κs = search needs
+leads-enum-known-there : (t : ℕ) → leads-lts.Need-enum-known-there (leads-given t) (leads-at t) leads.Post
+leads-enum-known-there t c = search needs
 
 leads-same-length-4 : (t : ℕ) → leads-lts.Need-same-length-4 (leads-given t) (leads-at t) leads.Post
 leads-same-length-4 t c = search needs
@@ -399,7 +382,7 @@ leads-same-length-5 : (t : ℕ) → leads-lts.Need-same-length-5 (leads-given t)
 leads-same-length-5 t c = search needs
 
 leads-returns-4 : (t : ℕ) → leads-lts.Need-returns-4 (leads-given t) (leads-at t) leads.Post
-leads-returns-4 t c = (rw (c .tired2 .ensures) (tells-refused _ _ _ _), c .before .before .before .before .before .before .before .holds .ensures .1)
+leads-returns-4 t c = (tells-unsaid _ _ _ _ (c .match .keys2), c .before .before .before .before .before .holds .ensures .1)
 
 leads-remember-requires : (t : ℕ) → leads-lts.Need-remember-requires (leads-given t) (leads-at t) leads.Post
 leads-remember-requires t c κs = search needs
@@ -417,7 +400,7 @@ leads-returns-5 t c =
     let f =
     c .before .before .before .before .before .before .before .before .before .before .before .before .before .before .before .before .before .before .before .before .before .before .before .far .ensures in
     let h = c .before .before .before .before .before .before .before .before .before .before .before .holds .ensures in
-    let y = c .before .before .before .before .before .yes .given in
+    let y = c .before .before .before .before .before .there .given in
     let few = item-few _ _ _ _ (s .pre .1 .0 .register) (f .1) in (
       leads-there _ _ _ _ _ _ _ _
           (c .before .before .before .before .before .before .before .before .before .before .before .before .before .before .before .before .before .before .before .before .before .before .before .before .before .label .ensures .0)
@@ -458,14 +441,8 @@ reaches-leads-requires t c κs =
     let l = c .before .before .before .loop .inv in
     (omega (arith, s .pre .0), (s .pre .1 .0, l .4, omega (arith, l .1, c .before .before .loop-test .taken)))
 
-reaches-enum-known-yes : (t : ℕ) → reaches-lts.Need-enum-known-yes (reaches-given t) (reaches-at t) reaches.Post Inv-loop μ-loop
-reaches-enum-known-yes t c = search needs
-
-reaches-enum-told : (t : ℕ) → reaches-lts.Need-enum-told (reaches-given t) (reaches-at t) reaches.Post Inv-loop μ-loop
-reaches-enum-told t c = search needs
-
-reaches-tired-requires : (t : ℕ) → reaches-lts.Need-tired-requires (reaches-given t) (reaches-at t) reaches.Post Inv-loop μ-loop
-reaches-tired-requires t c κs = search needs
+reaches-enum-known-led : (t : ℕ) → reaches-lts.Need-enum-known-led (reaches-given t) (reaches-at t) reaches.Post Inv-loop μ-loop
+reaches-enum-known-led t c = search needs
 
 reaches-same-length : (t : ℕ) → reaches-lts.Need-same-length (reaches-given t) (reaches-at t) reaches.Post Inv-loop μ-loop
 reaches-same-length t c = search needs
@@ -474,7 +451,7 @@ reaches-same-length-2 : (t : ℕ) → reaches-lts.Need-same-length-2 (reaches-gi
 reaches-same-length-2 t c = search needs
 
 reaches-returns : (t : ℕ) → reaches-lts.Need-returns (reaches-given t) (reaches-at t) reaches.Post Inv-loop μ-loop
-reaches-returns t c = (rw (c .tired .ensures) (tells-refused _ _ _ _), c .before .before .before .before .before .before .before .leads .ensures .1)
+reaches-returns t c = (tells-unsaid _ _ _ _ (c .match .keys2), c .before .before .before .before .before .leads .ensures .1)
 
 reaches-added-requires : (t : ℕ) → reaches-lts.Need-added-requires (reaches-given t) (reaches-at t) reaches.Post Inv-loop μ-loop
 reaches-added-requires t c κs =
@@ -497,7 +474,7 @@ reaches-returns-2 t c =
     let l = c .before .before .before .before .before .before .before .before .before .before .before .before .before .loop .inv in
     let test = c .before .before .before .before .before .before .before .before .before .before .before .before .loop-test .taken in
     let h = c .before .before .before .before .before .before .before .before .before .leads .ensures in
-    let y = c .before .before .before .yes .given in
+    let y = c .before .before .before .led .given in
     (met-enough _ _ _ _ _ _ _ _ (l .3) (omega (arith, test)) (own-link _ _ _ _ (l .2) test) _ (y .0 .0) (y .1) (h .0) _ (sym (c .before .added .ensures) ∙ c .if1 .taken), h .1)
 
 reaches-before-requires : (t : ℕ) → reaches-lts.Need-before-requires (reaches-given t) (reaches-at t) reaches.Post Inv-loop μ-loop
@@ -523,7 +500,7 @@ reaches-loop-again t c =
     let l = c .before .before .before .before .before .before .before .before .before .before .before .before .before .before .loop .inv in
     let test = c .before .before .before .before .before .before .before .before .before .before .before .before .before .loop-test .taken in
     let h = c .before .before .before .before .before .before .before .before .before .before .leads .ensures in
-    let y = c .before .before .before .before .yes .given in
+    let y = c .before .before .before .before .led .given in
     let last = c .before2 .ensures in (
       omega (arith, l .0, c .before .before .added .ensures, c .before .if1 .left, cond-most (y .0 .0)),
       omega (arith, last .low, l .1),
@@ -596,14 +573,11 @@ pub +holds+leads+reaches-spec : {M : Type 1} → statement M
     (leads-same-length t)
     (leads-returns-2 t)
     (leads-spent-requires t)
-    (leads-tired-requires t)
     (leads-same-length-2 t)
     (leads-same-length-3 t)
     (leads-returns-3 t)
     (leads-holds-requires t)
-    (leads-enum-known-yes t)
-    (leads-enum-told t)
-    (leads-tired-requires-2 t)
+    (leads-enum-known-there t)
     (leads-same-length-4 t)
     (leads-same-length-5 t)
     (leads-returns-4 t)
@@ -618,9 +592,7 @@ pub +holds+leads+reaches-spec : {M : Type 1} → statement M
     (reaches-loop-holds t)
     (reaches-sub-leads t)
     (reaches-leads-requires t)
-    (reaches-enum-known-yes t)
-    (reaches-enum-told t)
-    (reaches-tired-requires t)
+    (reaches-enum-known-led t)
     (reaches-same-length t)
     (reaches-same-length-2 t)
     (reaches-returns t)

@@ -10,11 +10,8 @@ ask-requires c κs = let s = c .before .before .pre in (s .0, s .2)
 enum-known-yes : tie.Need-enum-known-yes
 enum-known-yes c = search needs
 
-enum-told : tie.Need-enum-told
-enum-told c = search needs
-
 ask-all-requires : tie.Need-ask-all-requires
-ask-all-requires c κs = c .before .before .before .before .before .pre
+ask-all-requires c κs = c .before .before .before .before .pre
 
 returns : tie.Need-returns
 returns c = c .ask-all .ensures
@@ -24,4 +21,4 @@ returns-2 c = told-so _ _ _ (c .before .before .before .before .before .before .
 
 pub ask-spec : {M : Type 1} → statement M
 ask-spec =
-    tie.close (tie.spec ask-requires enum-known-yes enum-told ask-all-requires returns returns-2)
+    tie.close (tie.spec ask-requires enum-known-yes ask-all-requires returns returns-2)
