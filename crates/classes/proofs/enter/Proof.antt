@@ -8,6 +8,9 @@ use borrow.Author.Needs.{needs}
 use Rattle.classes.proofs.enter.Statement.{statement}
 use Rattle.classes.proofs.enter.Tie as tie
 
+cast-at : tie.Need-cast-at
+cast-at c = search needs
+
 mul-at : tie.Need-mul-at
 mul-at c = search needs
 
@@ -23,14 +26,11 @@ slice-read-number c = search needs
 returns : tie.Need-returns
 returns c = search needs
 
-cast-out : tie.Need-cast-out
-cast-out c = search needs
-
 marks-requires : tie.Need-marks-requires
 marks-requires c κs = search needs
 
-cast-out-2 : tie.Need-cast-out-2
-cast-out-2 c = search needs
+cast-out : tie.Need-cast-out
+cast-out c = search needs
 
 mul-out : tie.Need-mul-out
 mul-out c = search needs
@@ -38,8 +38,8 @@ mul-out c = search needs
 slice-write-out : tie.Need-slice-write-out
 slice-write-out c = search needs
 
-cast-out-3 : tie.Need-cast-out-3
-cast-out-3 c = search needs
+cast-out-2 : tie.Need-cast-out-2
+cast-out-2 c = search needs
 
 add-out : tie.Need-add-out
 add-out c = search needs
@@ -73,25 +73,25 @@ same-length c = search needs
 
 returns-2 : tie.Need-returns-2
 returns-2 c =
-    let s = c .before .before .before .before .before in
+    let s = c .before .before .before .before .before .before in
     let m = c .marks .ensures in
-    enters-first _ _ _ _ _ (s .pre .4) (s .pre .3) _ _ (c .before .if1 .left) (ap (λ (v : ℕ). v / 65536) m) (ap (λ (v : ℕ). v % 65536) m)
+    enters-first _ _ _ _ _ (s .pre .3) (s .pre .2) _ _ (c .before .if1 .left) (ap (λ (v : ℕ). v / 65536) m) (ap (λ (v : ℕ). v % 65536) m)
 
 pub enter-spec : {M : Type 1} → statement M
 enter-spec =
     tie.close
     (tie.spec
+    cast-at
     mul-at
     add-number
     mul-number
     slice-read-number
     returns
-    cast-out
     marks-requires
-    cast-out-2
+    cast-out
     mul-out
     slice-write-out
-    cast-out-3
+    cast-out-2
     add-out
     mul-out-2
     slice-write-out-2
