@@ -9,7 +9,7 @@ use native.Mathlib.Omega.{arith}
 use native.Mathlib.Bridge.{le-prop}
 use lib.Dec.{T}
 use lib.ListN.{length, getD}
-use mir.Syntax.{w8, Lifetime, named, erased, tyInt}
+use mir.Syntax.{w8, named, erased, tyInt}
 use mir.Val.{Val, vint, WT, hasTy}
 use base.Logic.{ent, sep, emp, wand, ex, guard, via, fst∗, snd∗, comm∗, monoL, monoR, emp∗, id⊢, exE, guardE}
 use base.Fml.{Lft, Share, Fml}
@@ -150,7 +150,8 @@ module _ (w : World) where
     Held = CanOwn (w .𝓤) (w .H) (w .𝓖 .A) (w .𝓜 .mem) S κs a
 
     -- as a caller that is about to take a step has, with what every function's theorem asks of its caller
-    pub calls-hold : (qs : Shares (S .lifetimes)) (vss : Vals S κs) (P Q : Pr w) → Step (w .𝓤) (w .H) (w .𝓜) Q → P ⊢ Entry qs vss → (Held → P ⊢ Q) → P ⊢ Q
+    pub calls-hold : (qs : Shares (S .lifetimes)) (vss : Vals S κs) (P Q : Pr w) → Step (w .𝓤) (w .H) (w .𝓜) Q →
+        P ⊢ Entry qs vss → (Held → P ⊢ Q) → P ⊢ Q
     calls-hold = learns-can-own (w .𝓤) (w .H) (w .𝓖 .A) (w .𝓜) S κs a
 
     module _ (κ : Lft) (x : RefT (List ℕ)) (share : Shares (S .lifetimes) → Share)
@@ -186,7 +187,8 @@ module _ (w : World) where
       bytes-held condense.signature κs a (κs .0) (a .0) (λ qs. qs .0) (token 1 κs)
       (λ vss. slice-of 0 (typesAt (condense.signature .params) κs) a vss (κs .0) (a .0) (vss .0) (id⊢ (w .𝓤) (Parameter (κs .0) (a .0) (vss .0))))
 
-  pub hestovane-condense-bytes : (κs : Lfts 2) (a : Args hestovane-condense.signature κs) → Held hestovane-condense.signature κs a → Bytes (a .1 .1 .1 .0 .now)
+  pub hestovane-condense-bytes : (κs : Lfts 2) (a : Args hestovane-condense.signature κs) →
+      Held hestovane-condense.signature κs a → Bytes (a .1 .1 .1 .0 .now)
   hestovane-condense-bytes κs a =
       let reg : RefT (List ℕ) = a .1 .1 .1 .0 in
       bytes-held hestovane-condense.signature κs a (κs .0) reg (λ qs. qs .0) (token 1 κs)

@@ -1,6 +1,6 @@
--- One answer only, over the contracts of the five calls as they stand in src/lib.rt: "that two results allowed by it coincide is proved".
--- Two results that a call's contract allows for the same input are the same value, and so is every byte of a lent buffer. Leans on
--- promise's OneAnswer: a number is one refusal's only.
+-- One answer only, over the contracts of the ten functions as they stand in src/lib.rt: "that two results allowed by it coincide is proved".
+-- Two results that a function's contract allows for the same arguments are the same value, and every lent buffer holds the same bytes. The
+-- contract is no copy: it is what the checker makes of the clauses, so that a weaker clause is refused here. Leans on promise's OneAnswer.
 use mathlib.Core.Path.{_≡_, refl, sym, ap, _∙_}
 use mathlib.Core.List.{List}
 use Prim.Native.Nat.{ℕ}
@@ -68,9 +68,9 @@ wrote-one (Refused a) (Refused b) e = ap (λ (r : Refusal). Refused r) (number-o
 gives-one : (a : Answer) (d : List ℕ) {w v : Wrote} {x y : List ℕ} → Gives w d x a → Gives v d y a → (w ≡ v) × (x ≡ y)
 gives-one a d {w} {v} p q = (wrote-one w v (p .says ∙ sym (q .says)), p .leaves ∙ sym (q .leaves))
 
--- ---- what a contract allows: the value handed back, and what each lent buffer holds afterwards, of which the call's `ensures` holds. `Learnt` is
--- made by the checker from the clauses of src/lib.rt, and is all that a caller is told of a call
+-- ---- what a contract allows
 
+-- `Learnt` is what a caller is told of a call with the arguments a: of the value handed back, and of what each lent buffer holds afterwards
 abbrev pub One : {n : ℕ} (ps : List (PK n)) (r : RK n) → Out n ps r → Type 0
 One {n} ps r Learnt =
     (κs : Lfts n) (a : Dens κs ps) (y z : resT r κs .Denot) (us vs : Lasts (endedOf n ps r) κs a) →

@@ -102,18 +102,23 @@ module _ (w : World) {n : ℕ} (ps : List (PK n)) (r : RK n) (Learnt : Out n ps 
 
     module _ (x : Call) (σ : Memory) (F : Pr w) (fuel : ℕ) (v : Val) (σ′ : Memory)
         (ends : ρ .step fuel (passed (w .𝓤) (w .H) (w .𝓖 .A) (sigOf n ps r) x) σ ≡ done (v, σ′)) where
-      with-values : (z : resT r (x .0) .Denot) (ws : Lasts (endedOf n ps r) (x .0) (x .3)) → Satisfies (w .𝓤) (w .H) (w .𝓜) σ′ (sep (w .𝓤) (Left x v z ws) F) → ∥ Ended x σ F ∥₁
+      with-values : (z : resT r (x .0) .Denot) (ws : Lasts (endedOf n ps r) (x .0) (x .3)) →
+          Satisfies (w .𝓤) (w .H) (w .𝓜) σ′ (sep (w .𝓤) (Left x v z ws) F) → ∥ Ended x σ F ∥₁
       with-values z ws s =
           ∥∥₁-map (sat-fact (w .𝓤) (w .H) (w .𝓜) σ′ (sep (w .𝓤) (Left x v z ws) F) (Says x v z ws) (says x v z ws σ′ F) s)
           (λ g. (fuel, v, σ′, z, ws, ends, g .1, sat-weaken (w .𝓤) (w .H) (w .𝓜) σ′ (leaves x v z ws F) s))
 
-      with-result : (z : resT r (x .0) .Denot) → Satisfies (w .𝓤) (w .H) (w .𝓜) σ′ (sep (w .𝓤) (ex (w .𝓤) (Left x v z)) F) → ∥ Ended x σ F ∥₁
+      with-result : (z : resT r (x .0) .Denot) →
+          Satisfies (w .𝓤) (w .H) (w .𝓜) σ′ (sep (w .𝓤) (ex (w .𝓤) (Left x v z)) F) → ∥ Ended x σ F ∥₁
       with-result z s = ∥∥₁-elim (sat-ex∗ (w .𝓤) (w .H) (w .𝓜) σ′ (Left x v z) F s) ∥∥₁-prop (λ q. with-values z (q .0) (q .1))
 
-      returned : Satisfies (w .𝓤) (w .H) (w .𝓜) σ′ (sep (w .𝓤) (w .H .⇛ (ex (w .𝓤) (λ (z : resT r (x .0) .Denot). ex (w .𝓤) (Left x v z)))) F) → ∥ Ended x σ F ∥₁
+      abbrev E : resT r (x .0) .Denot → Pr w
+      E z = ex (w .𝓤) (Left x v z)
+
+      returned : Satisfies (w .𝓤) (w .H) (w .𝓜) σ′ (sep (w .𝓤) (w .H .⇛ (ex (w .𝓤) E)) F) → ∥ Ended x σ F ∥₁
       returned s =
-          let E : resT r (x .0) .Denot → Pr w = λ z. ex (w .𝓤) (Left x v z) in
-          ∥∥₁-elim (sat-ex∗ (w .𝓤) (w .H) (w .𝓜) σ′ E F (sat-⇛ (w .𝓤) (w .H) (w .𝓜) σ′ (ex (w .𝓤) E) F s)) ∥∥₁-prop (λ p. with-result (p .0) (p .1))
+          ∥∥₁-elim (sat-ex∗ (w .𝓤) (w .H) (w .𝓜) σ′ E F (sat-⇛ (w .𝓤) (w .H) (w .𝓜) σ′ (ex (w .𝓤) E) F s)) ∥∥₁-prop
+          (λ p. with-result (p .0) (p .1))
 
     pub ran : Runs
     unfolding tablesOf
@@ -128,25 +133,30 @@ module _ (w : World) {n : ℕ} (ps : List (PK n)) (r : RK n) (Learnt : Out n ps 
 
 pub hestovane-condense-ran : (w : World) → Runs w condense-kinds.ps condense-kinds.r condense-reads.Learnt condense-symbol.routine
 hestovane-condense-ran w =
-    ran w condense-kinds.ps condense-kinds.r condense-reads.Learnt condense-symbol.routine condense-reads.Ghost condense-reads.requires condense-reads.ensures
+    ran w condense-kinds.ps condense-kinds.r condense-reads.Learnt condense-symbol.routine
+    condense-reads.Ghost condense-reads.requires condense-reads.ensures
     condense-reads.Asked condense-reads.known (condense-met.met (w .𝓤) (w .H) (w .𝓜) (w .𝓖) (w .𝓡)) (λ x. tt)
 
 pub hestovane-check-ran : (w : World) → Runs w check-kinds.ps check-kinds.r check-reads.Learnt check-symbol.routine
 hestovane-check-ran w =
-    ran w check-kinds.ps check-kinds.r check-reads.Learnt check-symbol.routine check-reads.Ghost check-reads.requires check-reads.ensures
+    ran w check-kinds.ps check-kinds.r check-reads.Learnt check-symbol.routine
+    check-reads.Ghost check-reads.requires check-reads.ensures
     check-reads.Asked check-reads.known (check-met.met (w .𝓤) (w .H) (w .𝓜) (w .𝓖) (w .𝓡)) (λ x. tt)
 
 pub hestovane-ask-register-ran : (w : World) → Runs w ask-register-kinds.ps ask-register-kinds.r ask-register-reads.Learnt ask-register-symbol.routine
 hestovane-ask-register-ran w =
-    ran w ask-register-kinds.ps ask-register-kinds.r ask-register-reads.Learnt ask-register-symbol.routine ask-register-reads.Ghost ask-register-reads.requires ask-register-reads.ensures
+    ran w ask-register-kinds.ps ask-register-kinds.r ask-register-reads.Learnt ask-register-symbol.routine
+    ask-register-reads.Ghost ask-register-reads.requires ask-register-reads.ensures
     ask-register-reads.Asked ask-register-reads.known (ask-register-met.met (w .𝓤) (w .H) (w .𝓜) (w .𝓖) (w .𝓡)) (λ x. tt)
 
 pub hestovane-ask-summary-ran : (w : World) → Runs w ask-summary-kinds.ps ask-summary-kinds.r ask-summary-reads.Learnt ask-summary-symbol.routine
 hestovane-ask-summary-ran w =
-    ran w ask-summary-kinds.ps ask-summary-kinds.r ask-summary-reads.Learnt ask-summary-symbol.routine ask-summary-reads.Ghost ask-summary-reads.requires ask-summary-reads.ensures
+    ran w ask-summary-kinds.ps ask-summary-kinds.r ask-summary-reads.Learnt ask-summary-symbol.routine
+    ask-summary-reads.Ghost ask-summary-reads.requires ask-summary-reads.ensures
     ask-summary-reads.Asked ask-summary-reads.known (ask-summary-met.met (w .𝓤) (w .H) (w .𝓜) (w .𝓖) (w .𝓡)) (λ x. tt)
 
 pub hestovane-list-ran : (w : World) → Runs w list-kinds.ps list-kinds.r list-reads.Learnt list-symbol.routine
 hestovane-list-ran w =
-    ran w list-kinds.ps list-kinds.r list-reads.Learnt list-symbol.routine list-reads.Ghost list-reads.requires list-reads.ensures
+    ran w list-kinds.ps list-kinds.r list-reads.Learnt list-symbol.routine
+    list-reads.Ghost list-reads.requires list-reads.ensures
     list-reads.Asked list-reads.known (list-met.met (w .𝓤) (w .H) (w .𝓜) (w .𝓖) (w .𝓡)) (λ x. tt)
