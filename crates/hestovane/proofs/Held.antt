@@ -13,6 +13,7 @@ use mir.Syntax.{w8, named, erased, tyInt}
 use mir.Val.{Val, vint, WT, hasTy}
 use base.Logic.{ent, sep, emp, wand, ex, guard, via, fst∗, snd∗, comm∗, monoL, monoR, emp∗, id⊢, exE, guardE}
 use base.Fml.{Lft, Share, Fml}
+use prog.Memory.{Memory}
 use ghost.Atoms.{sem}
 use types.Kit.{Given}
 use contract.Monad.{fact, factI}
@@ -153,6 +154,11 @@ module _ (w : World) where
     pub calls-hold : (qs : Shares (S .lifetimes)) (vss : Vals S κs) (P Q : Pr w) → Step (w .𝓤) (w .H) (w .𝓜) Q →
         P ⊢ Entry qs vss → (Held → P ⊢ Q) → P ⊢ Q
     calls-hold = learns-can-own (w .𝓤) (w .H) (w .𝓖 .A) (w .𝓜) S κs a
+
+    -- and as any memory has that holds them, beside anything else
+    pub memory-holds : (qs : Shares (S .lifetimes)) (vss : Vals S κs) (σ : Memory) (F : Pr w) → Satisfies (w .𝓤) (w .H) (w .𝓜) σ (Entry qs vss ∗ F) → Held
+    unfolding Satisfies
+    memory-holds qs vss σ F s = ∣ (σ, qs, vss, sat-weaken (w .𝓤) (w .H) (w .𝓜) σ (fst∗ (w .𝓤) (Entry qs vss) F) s) ∣₁
 
     module _ (κ : Lft) (x : RefT (List ℕ)) (share : Shares (S .lifetimes) → Share)
         (alive-at : (qs : Shares (S .lifetimes)) → alive (w .𝓤) (w .H) (w .𝓖 .A) S κs qs ⊢ w .𝓖 .A .lft κ (share qs))
