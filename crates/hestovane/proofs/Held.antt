@@ -156,7 +156,8 @@ module _ (w : World) where
     calls-hold = learns-can-own (w .𝓤) (w .H) (w .𝓖 .A) (w .𝓜) S κs a
 
     -- and as any memory has that holds them, beside anything else
-    pub memory-holds : (qs : Shares (S .lifetimes)) (vss : Vals S κs) (σ : Memory) (F : Pr w) → Satisfies (w .𝓤) (w .H) (w .𝓜) σ (Entry qs vss ∗ F) → Held
+    pub memory-holds : (qs : Shares (S .lifetimes)) (vss : Vals S κs) (σ : Memory) (F : Pr w) →
+        Satisfies (w .𝓤) (w .H) (w .𝓜) σ (Entry qs vss ∗ F) → Held
     unfolding Satisfies
     memory-holds qs vss σ F s = ∣ (σ, qs, vss, sat-weaken (w .𝓤) (w .H) (w .𝓜) σ (fst∗ (w .𝓤) (Entry qs vss) F) s) ∣₁
 

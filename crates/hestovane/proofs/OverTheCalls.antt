@@ -94,12 +94,12 @@ names found d = (enough, short)
 abbrev pub Found : List ℕ → Question → List ℕ
 Found b t = those (holds (registerIn b) t) (items (registerIn b))
 
--- the bytes that were listed are numbers of two bytes, ascending strictly, and a number is among them exactly when asking the register at it
--- the same question says yes
-pub record Exact (b q : List ℕ) (k : ℕ) (after : List ℕ) : Type 0 where
+-- a buffer that held d was listed into: numbers of two bytes, ascending strictly, and the bytes past them as they were; and a number is among
+-- them exactly when asking the register b at it the same question q says yes
+pub record Exact (b q d : List ℕ) (k : ℕ) (after : List ℕ) : Type 0 where
   pub found : List ℕ
   pub length-is : k ≡ 2 * length found
-  pub bytes-are : take k after ≡ pack put2 found
+  pub buffer-is : after ≡ pack put2 found ++ drop k d
   pub ascending : ascends (λ x. x) found ≡ true
   pub named : (κs : Lfts 2) (reg q′ : Slice) (x : ℕ) (r : Said) → AskedRegister κs reg q′ x r → reg .now ≡ b → q′ .now ≡ q →
       any (eqb x) found ≡ true ↔ r ≡ Yes
@@ -204,32 +204,33 @@ module _ {w : World} {i µ ν : ℕ} {b s : List ℕ} (m : Made w i µ ν b s) w
   -- ---- told by the calls alone: condensing gave a length, listing gave a length, and nothing else is asked
 
   exact : (q d after : List ℕ) (k : ℕ) → Answers.list s q (length d) ≡ wrote (take k after) → after ≡ left (Answers.list s q (length d)) d →
-      size k ≡ returned (Answers.list s q (length d)) → Exact b q k after
-  unfolding returned
+      size k ≡ returned (Answers.list s q (length d)) → Exact b q d k after
+  unfolding returned left
   exact q d after k e f g =
       let r = list-reach i µ ν b s q (take k after) (length d) W e in
       let t = r .0 in
       let p = pack put2 (Found b t) in
       let one = list-answer t (r .2) (r .3) s q (length d) refl (r .1) in
       let same : take k after ≡ p = into-wrote (length d) p (take k after) (sym one ∙ e) in
+      let long : k ≡ length p = size-one k (length (take k after)) (g ∙ ap returned e) ∙ ap (λ (v : List ℕ). length v) same in
       record {
         found = Found b t;
-        length-is = size-one k (length (take k after)) (g ∙ ap returned e) ∙ ap (λ (v : List ℕ). length v) same ∙ size-numbers (Found b t);
-        bytes-are = same;
+        length-is = long ∙ size-numbers (Found b t);
+        buffer-is = f ∙ ap (λ (a : Answer). left a d) (e ∙ ap wrote same) ∙ ap (λ (v : ℕ). p ++ drop v d) (sym long);
         ascending = those-ascending (holds (registerIn b) t) (items (registerIn b));
         named = λ κs reg q′ x y h u v. made-named t (r .2) (r .3) κs reg q′ x y h u (ap question v ∙ r .1);
         hestovane-named = λ κs reg q′ x y h u v. hestovane-made-named t (r .2) (r .3) κs reg q′ x y h u (ap question v ∙ r .1);
       }
 
   pub demand-3 : (κs : Lfts 3) (s′ q out : Slice) (k : ℕ) (after : List ℕ) → Listed κs s′ q out (Length k) after → s′ .now ≡ s →
-      Exact b (q .now) k after
+      Exact b (q .now) (out .now) k after
   demand-3 κs s′ q out k after e f =
       let g = subst (λ (v : List ℕ). Gives (Length k) (out .now) after (Answers.list v (q .now) (length (out .now)))) f e in
       let a = Answers.list s (q .now) (length (out .now)) in
       exact (q .now) (out .now) after k (wrote-gives a k (out .now) after g) (g .leaves) (g .says)
 
   pub hestovane-demand-3 : (κs : Lfts 3) (s′ q out : Slice) (k : ℕ) (after : List ℕ) → CListed κs s′ q out (pos k) after → s′ .now ≡ s →
-      Exact b (q .now) k after
+      Exact b (q .now) (out .now) k after
   hestovane-demand-3 κs s′ q out k after e f =
       let room = length (out .now) in
       let a = Answers.list s (q .now) room in
