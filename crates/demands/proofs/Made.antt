@@ -32,11 +32,11 @@ use Rattle.theory.proofs.WellMade.{level-least}
 use Rattle.promise.proofs.Promise.{fault-accepted, made-back, made-well, condense-wrote}
 use Rattle.said.specs.Written.{Gives}
 use Rattle.said.specs.declared.Wrote.the-variants.{Length}
-use Rattle.hestovane.proofs.Held.{Held, condense-bytes, hestovane-condense-bytes}
+use Rattle.demands.proofs.Held.{Held, condense-bytes, hestovane-condense-bytes}
 use Rattle.hestovane.proofs.OneAnswer.{clash}
 use Rattle.hestovane.proofs.condense as condense-call
 use Rattle.hestovane.proofs.hestovane_condense as c-condense-call
-use Rattle.hestovane.proofs.Calls.{Slice, Condensed, CCondensed}
+use Rattle.demands.proofs.Calls.{Slice, Condensed, CCondensed}
 
 -- ---- a summary made here, in any model of the logic: what a call of condensing wrote, or the same function of C
 

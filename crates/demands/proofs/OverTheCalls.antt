@@ -34,10 +34,10 @@ use Rattle.said.specs.declared.Said.{Said}
 use Rattle.said.specs.declared.Said.the-variants.{Yes}
 use Rattle.said.specs.declared.Wrote.{Wrote}
 use Rattle.said.specs.declared.Wrote.the-variants.{Length, Refused}
 use Rattle.hestovane.proofs.OneAnswer.{clash, said-one, wrote-one}
-use Rattle.hestovane.proofs.Calls.{Slice, Checked, AskedRegister, AskedSummary, Listed, CChecked, CAskedRegister, CAskedSummary, CListed}
-use Rattle.hestovane.proofs.Made.{Made, Written, made-written, wrote-gives, wrote-code, list-fills}
-use Rattle.hestovane.proofs.Made.{asked-as, yes-word, yes-code, past-asked, list-reach}
+use Rattle.demands.proofs.Calls.{Slice, Checked, AskedRegister, AskedSummary, Listed, CChecked, CAskedRegister, CAskedSummary, CListed}
+use Rattle.demands.proofs.Made.{Made, Written, made-written, wrote-gives, wrote-code, list-fills}
+use Rattle.demands.proofs.Made.{asked-as, yes-word, yes-code, past-asked, list-reach}
 
 -- an answer as the one number that C is handed
 abbrev coded : Answer → ℤ
