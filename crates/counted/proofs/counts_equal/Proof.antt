@@ -54,7 +54,9 @@ cast-t21 : tie.Need-cast-t21 Inv-loop μ-loop
 cast-t21 c = omega (arith, c .before .before .before .classes4 .ensures)
 
 count-requires : tie.Need-count-requires Inv-loop μ-loop
-count-requires c κs = record { exact-is = c .before .before .before .before .before .before .before .before .before .before .pre .0 .exact-is; class-is = omega (arith, c .before .before .before .classes4 .ensures) }
+count-requires c κs =
+    let s = c .before .before .before .before .before .before .before .before .before .before in
+    record { exact-is = s .pre .0 .exact-is; class-is = omega (arith, c .before .before .before .classes4 .ensures) }
 
 returns : tie.Need-returns Inv-loop μ-loop
 returns c =
@@ -62,8 +64,8 @@ returns c =
     let p = c .before .before .before .before .before .before .before .before .before .before in
     let s = p .before .before .before in
     let classes = c .before .before .before .before .before .before .classes4 .ensures in
-    let says =
-    counted _ _ _ _ _ _ (l .k) (s .pre .1) (omega (arith, classes, s .pre .0 .few-classes)) (p .put-classes .ensures) (c .before .before .before .before .before .before .before .by-class .ensures) in
+    let counts = c .before .before .before .before .before .before .before .by-class .ensures in
+    let says = counted _ _ _ _ _ _ (l .k) (s .pre .1) (omega (arith, classes, s .pre .0 .few-classes)) (p .put-classes .ensures) counts in
     sym (all-no _ _ (l .k) (omega (arith, classes)) (told-no _ _ _ _ (c .before .before .count .ensures) says (c .if1 .taken)))
 
 add-k : tie.Need-add-k Inv-loop μ-loop
@@ -78,8 +80,8 @@ loop-again c =
     let p = c .before .before .before .before .before .before .before .before .before .before in
     let s = p .before .before .before in
     let classes = c .before .before .before .before .before .before .classes4 .ensures in
-    let says =
-    counted _ _ _ _ _ _ (l .k) (s .pre .1) (omega (arith, classes, s .pre .0 .few-classes)) (p .put-classes .ensures) (c .before .before .before .before .before .before .before .by-class .ensures) in
+    let counts = c .before .before .before .before .before .before .before .by-class .ensures in
+    let says = counted _ _ _ _ _ _ (l .k) (s .pre .1) (omega (arith, classes, s .pre .0 .few-classes)) (p .put-classes .ensures) counts in
     (omega arith, below-more _ _ (l .inv .1) (told-yes _ _ _ _ (c .before .before .count .ensures) says (c .if1 .left)))
 
 returns-2 : tie.Need-returns-2 Inv-loop μ-loop
