@@ -230,6 +230,7 @@ wellFormedness =
     so (read (rowed (rowsA ++ (aRow 4 Outgoing 0 0 1 ∷ [])))) (refused 6) ∷
     so (read (rowed (rowsA ++ (aRow 3 Incoming 16 0 1 ∷ [])))) (refused 6) ∷
     so (read (rowed (rowsA ++ (aRow 3 Incoming 0 3 1 ∷ [])))) (refused 6) ∷
+    so (read (set S1 83 32)) (refused 6) ∷
     so (read (set S1 87 0)) (refused 6) ∷
     so (read (set S1 87 2)) (said true) ∷
     so (read (set S1 87 3)) (refused 6) ∷
