@@ -169,6 +169,9 @@ holding =
     so (askRegister knot (out 2 ++ truth) 0) (said true) ∷
     so (askRegister knot (incoming 1 ++ literal 1) 0) (said true) ∷
     so (askRegister knot (incoming 2 ++ truth) 0) (said false) ∷
+    -- "A question at an item of a summary is asked at its mapped class."
+    so (askSummary S1 (literal 3) 3) (said true) ∷
+    so (askSummary S1 (literal 3) 2) (said false) ∷
     -- "an operand holds at a group when it holds at the group's lowest-numbered class"
     so (askSummary disagreeing (out 1 ++ literal 3) 0) (said true) ∷
     so (askSummary disagreeing (out 1 ++ literal 4) 0) (said false) ∷
@@ -283,6 +286,7 @@ checking =
     so (check chain (chained (aLink 0 0 1 ∷ aLink 1 0 1 ∷ aLink 1 0 2 ∷ []))) (said true) ∷
     so (check fifteen (fifteenAs 1)) (said true) ∷
     so (check knot knotSummary) (said true) ∷
+    so (check three (bytes (condense 1 1 1 three 999))) (said true) ∷
     so (check three (bytes (condense 1 2 2 three 999))) (said true) ∷
     -- "the item counts agree"
     so (check A (mapped 3)) (said false) ∷
@@ -357,6 +361,7 @@ lent =
     so (wrote (left (list S1 (out 1 ++ literal 4) 3) (7 ∷ 8 ∷ 9 ∷ []))) (wrote (0 ∷ 2 ∷ 9 ∷ [])) ∷
     so (wrote (left (check A S1) (7 ∷ 8 ∷ 9 ∷ []))) (wrote (7 ∷ 8 ∷ 9 ∷ [])) ∷
     so (handed (list S1 (literal 3) 3)) (wrote (1 ∷ 9 ∷ [])) ∷
+    so (handed (check A [])) (wrote (1 ∷ 6 ∷ [])) ∷
     so (handed (list S1 (literal 3) 4)) (wrote (0 ∷ 4 ∷ [])) ∷
     so (handed (check A S1)) (wrote (0 ∷ 1 ∷ [])) ∷
     so (handed (check A (set S1 55 2))) (wrote (0 ∷ 0 ∷ [])) ∷
