@@ -1,79 +1,70 @@
 //! The cases of asking: questions sound and malformed, asked of registers, one line for each case.
-//! Ten families, in this order: code, tail, literal, entries, bytes, nested, order, asked,
-//! around, steps. An answer is one character, and several answers stand together without a blank.
+//! Nine families, in this order: code, tail, literal, entries, bytes, nested, order, around, steps;
+//! and asked, which goes by seed. An answer is one character, and several answers stand together
+//! without a blank.
 
-use crate::answers::ask_register;
 use crate::bytes::with_number;
-use crate::cases::{base_register, paired_register};
+use crate::families::BySeed;
 use crate::generator::{small_register, Dice};
+use crate::judging::{base_register, paired_register};
 use crate::link::Link;
 use crate::numbers::Item;
 use crate::question::entry;
 use crate::question_generator::damaged_question;
-use crate::refusal::Refusal;
 use crate::register::Register;
-use std::io::{self, Write};
-use std::ops::Range;
+use crate::trial::Trial;
 
-pub fn print(out: &mut impl Write) -> io::Result<()> {
-    print_codes(out)?;
-    print_tails(out)?;
-    print_literals(out)?;
-    print_entries(out)?;
-    print_bytes(out)?;
-    print_nested(out)?;
-    print_orders(out)?;
-    print_asked(out)?;
-    print_around(out)?;
-    print_steps(out)
+pub fn run(trial: &mut Trial) {
+    codes(trial);
+    tails(trial);
+    literals(trial);
+    entries(trial);
+    bytes(trial);
+    nested(trial);
+    orders(trial);
+    around(trial);
+    steps(trial);
 }
 
-fn answer(register: &[u8], question: &[u8], item: usize) -> char {
-    letter(ask_register(register, question, Item(item)))
-}
+pub const ASKED: BySeed = BySeed {
+    last: 2_000,
+    line: asked,
+};
 
-/// Yes, no, or the digit of the refusal.
-pub fn letter(answer: Result<bool, Refusal>) -> char {
-    match answer {
-        Ok(true) => 'y',
-        Ok(false) => 'n',
-        Err(refusal) => char::from(b'0' + refusal.number()),
-    }
-}
-
-pub fn answers(register: &[u8], question: &[u8], items: Range<usize>) -> String {
-    items.map(|item| answer(register, question, item)).collect()
+/// A line: which case it is, and one answer.
+fn asked_once(trial: &mut Trial, case: &str, register: &[u8], question: &[u8], item: usize) {
+    trial.text(case);
+    trial.ask_register(register, question, item..item + 1);
+    trial.end_line();
 }
 
 /// Every pair of first and second byte, with no operand, with one and with two.
-fn print_codes(out: &mut impl Write) -> io::Result<()> {
+fn codes(trial: &mut Trial) {
     let base = base_register().write();
     for first in 0..=255 {
         for operands in 0..=2 {
             let behind = entry(1, 1).repeat(operands);
-            let question = |second| [&entry(first, second)[..], &behind].concat();
-            let answer = |second| answer(&base, &question(second), 0);
-            let answers: String = (0..=255).map(answer).collect();
-            writeln!(out, "code {first} {operands} {answers}")?;
+            let question = [&entry(first, 0)[..], &behind].concat();
+            trial.text(&format!("code {first} {operands} "));
+            trial.sweep(&base, &question, 1, 0);
+            trial.end_line();
         }
     }
-    Ok(())
 }
 
 /// "Bytes three and four are 0", and what is said where they are not.
-fn print_tails(out: &mut impl Write) -> io::Result<()> {
+fn tails(trial: &mut Trial) {
     let base = base_register().write();
     for third in [0, 1, 255] {
         for fourth in [0, 1, 255] {
-            let answer = answer(&base, &[0, 0, third, fourth], 0);
-            writeln!(out, "tail {third} {fourth} {answer}")?;
+            let case = format!("tail {third} {fourth} ");
+            asked_once(trial, &case, &base, &[0, 0, third, fourth], 0);
         }
     }
-    Ok(())
 }
 
 /// Every literal, at items with no mark, the lowest, the highest, all, and every other one.
-fn print_literals(out: &mut impl Write) -> io::Result<()> {
+fn literals(trial: &mut Trial) {
     let register = Register {
         marks: vec![
             0,
@@ -87,20 +78,19 @@ fn print_literals(out: &mut impl Write) -> io::Result<()> {
     };
     let file = register.write();
     for literal in 0..=255 {
-        let answers = answers(&file, &entry(1, literal), 0..6);
-        writeln!(out, "literal {literal} {answers}")?;
+        trial.text(&format!("literal {literal} "));
+        trial.ask_register(&file, &entry(1, literal), 0..6);
+        trial.end_line();
     }
-    Ok(())
 }
 
 /// "A question is 1 to 64 entries": none, a few, the most, and one more.
-fn print_entries(out: &mut impl Write) -> io::Result<()> {
+fn entries(trial: &mut Trial) {
     let base = base_register().write();
     for entries in [0, 1, 2, 63, 64, 65] {
-        let answer = answer(&base, &nots_and_true(entries), 0);
-        writeln!(out, "entries {entries} {answer}")?;
+        let case = format!("entries {entries} ");
+        asked_once(trial, &case, &base, &nots_and_true(entries), 0);
     }
-    Ok(())
 }
 
 /// So many entries, each a not but the last, which is true.
@@ -112,44 +102,41 @@ fn nots_and_true(entries: usize) -> Vec<u8> {
 }
 
 /// A question of three entries cut at every place, whole, and with one byte too many.
-fn print_bytes(out: &mut impl Write) -> io::Result<()> {
+fn bytes(trial: &mut Trial) {
     let base = base_register().write();
     let mut question = nots_and_true(3);
     question.push(0);
     for length in 0..=13 {
-        let answer = answer(&base, &question[..length], 0);
-        writeln!(out, "bytes {length} {answer}")?;
+        let case = format!("bytes {length} ");
+        asked_once(trial, &case, &base, &question[..length], 0);
     }
-    Ok(())
 }
 
 /// "Any depth is allowed": the deepest questions there are, on a register as large as any.
-fn print_nested(out: &mut impl Write) -> io::Result<()> {
+fn nested(trial: &mut Trial) {
     let file = paired_register(1_024, 2_048).write();
     for threshold in [1, 2] {
         let out_and_in = [entry(16, threshold), entry(32, threshold)];
         let nested = out_and_in.into_iter().cycle().take(63);
         let question: Vec<u8> = nested.flatten().chain(entry(0, 0)).collect();
         for item in [0, 1, 511, 1_023] {
-            let answer = answer(&file, &question, item);
-            writeln!(out, "nested {threshold} {item} {answer}")?;
+            let case = format!("nested {threshold} {item} ");
+            asked_once(trial, &case, &file, &question, item);
         }
     }
-    Ok(())
 }
 
 /// A fault in the register, in the question and in the item number, each with and without the
 /// others: "ask a register 1, 2, 3, 5, 8".
-fn print_orders(out: &mut impl Write) -> io::Result<()> {
+fn orders(trial: &mut Trial) {
     for (f, register) in sound_and_faulty_files().iter().enumerate() {
         for (g, question) in [entry(0, 0), entry(5, 0)].iter().enumerate() {
             for (h, item) in [0, 3].into_iter().enumerate() {
-                let answer = answer(register, question, item);
-                writeln!(out, "order {f} {g} {h} {answer}")?;
+                let case = format!("order {f} {g} {h} ");
+                asked_once(trial, &case, register, question, item);
             }
         }
     }
-    Ok(())
 }
 
 /// The base register's file as it is, and with a fault that is refused 1, 2 and 3.
@@ -163,52 +150,40 @@ pub fn sound_and_faulty_files() -> [Vec<u8>; 4] {
     ]
 }
 
-/// A small register and a question thrown after it with the same dice, asked at every item and at
-/// the first number that is no item.
-fn print_asked(out: &mut impl Write) -> io::Result<()> {
-    for seed in 1..=2_000 {
-        let dice = &mut Dice::of_seed(seed);
-        let register = small_register(dice);
-        let question = damaged_question(dice);
-        let items = 0..register.marks.len() + 1;
-        let answers = answers(&register.write(), &question, items);
-        writeln!(out, "asked {seed} {answers}")?;
-    }
-    Ok(())
-}
-
 /// Every threshold, by every label and each way, at an item whose neighbours by label l number
 /// one more than l mod 9.
-fn print_around(out: &mut impl Write) -> io::Result<()> {
+fn around(trial: &mut Trial) {
     let file = wheel().write();
     for way in [16, 32] {
         for label in 0..16 {
-            let question = |t| [entry(way + label, t), entry(0, 0)].concat();
-            let answers: String = (1..=8).map(|t| answer(&file, &question(t), 0)).collect();
-            writeln!(out, "around {way} {label} {answers}")?;
+            trial.text(&format!("around {way} {label} "));
+            for threshold in 1..=8 {
+                let question = [entry(way + label, threshold), entry(0, 0)].concat();
+                trial.ask_register(&file, &question, 0..1);
+            }
+            trial.end_line();
         }
     }
-    Ok(())
 }
 
 /// At-leasts one inside the other, outgoing by label 0, around "has mark 32" and then around
 /// "lacks mark 32": by turns at least 8 and at least 1 at the hub of a full register, by turns at
 /// least 1 and at least 8 at the first and the last item around it.
-fn print_steps(out: &mut impl Write) -> io::Result<()> {
+fn steps(trial: &mut Trial) {
     let file = hub().write();
     for count in (0..13).chain(61..64) {
         let question = |turns: [u8; 2], literal| -> Vec<u8> {
             let nested = turns.map(|t| entry(16, t)).into_iter().cycle().take(count);
             nested.chain([entry(1, literal)]).flatten().collect()
         };
-        let three = |literal| {
-            let places = [([8, 1], 0), ([1, 8], 1), ([1, 8], 1_023)];
-            places.map(|(turns, item)| answer(&file, &question(turns, literal), item))
-        };
-        let answers: String = [32, 224].into_iter().flat_map(three).collect();
-        writeln!(out, "steps {count} {answers}")?;
+        trial.text(&format!("steps {count} "));
+        for literal in [32, 224] {
+            for (turns, item) in [([8, 1], 0), ([1, 8], 1), ([1, 8], 1_023)] {
+                trial.ask_register(&file, &question(turns, literal), item..item + 1);
+            }
+        }
+        trial.end_line();
     }
-    Ok(())
 }
 
 /// Item 0 with a link by label 0 to each of 1,023 others, and from each of them one back.
@@ -250,4 +225,16 @@ fn wheel() -> Register {
         marks: vec![0; 10],
         links,
     }
+}
+
+/// A small register and a question thrown after it with the same dice, asked at every item and at
+/// the first number that is no item.
+fn asked(trial: &mut Trial, seed: u64) {
+    let dice = &mut Dice::of_seed(seed);
+    let register = small_register(dice);
+    let question = damaged_question(dice);
+    let items = 0..register.marks.len() + 1;
+    trial.text(&format!("asked {seed} "));
+    trial.ask_register(&register.write(), &question, items);
+    trial.end_line();
 }

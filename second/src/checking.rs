@@ -1,6 +1,6 @@
 //! The cases of checking: proposed summaries, sound and spoilt, checked against registers, one line
-//! for each case. Seven families, in this order: faulty, stepped, fielded, cut, parted, proposed,
-//! checked. An eighth, wrecked, follows them and has a file of its own.
+//! for each case. Six families, in this order: faulty, stepped, fielded, cut, parted, proposed; and
+//! checked, which goes by seed. Another, wrecked, follows the six and has a file of its own.
 //!
 //! Answer. One letter: `y` or `n` for what the check says, or the digit of the refusal. Several
 //! answers stand together without a blank.
@@ -33,45 +33,56 @@
 //!             summary of that register, as the generator of spoilt summaries tells. Against its
 //!             own register, and against the small register that dice of the seed plus 10007 give.
 
-use crate::asking::{letter, sound_and_faulty_files};
+use crate::asking::sound_and_faulty_files;
 use crate::bytes::with_number;
-use crate::cases::base_register;
-use crate::check::check;
 use crate::condense::summary_of;
+use crate::families::BySeed;
 use crate::generator::{seeded_register, small_register, thrown_level_and_caps, Dice};
+use crate::judging::base_register;
 use crate::proposed::PROPOSED;
 use crate::register::Register;
 use crate::shapes::{empty_register, register_a, register_b};
 use crate::summary::Summary;
 use crate::summary_generator::spoil;
-use std::io::{self, Write};
+use crate::trial::Trial;
 
-pub fn print(out: &mut impl Write) -> io::Result<()> {
-    print_faulty(out)?;
-    print_stepped(out)?;
-    print_fielded(out)?;
-    print_cut(out)?;
-    print_parted(out)?;
-    print_proposed(out)?;
-    print_checked(out)
+pub fn run(trial: &mut Trial) {
+    faulty(trial);
+    stepped(trial);
+    fielded(trial);
+    cut(trial);
+    parted(trial);
+    proposed(trial);
 }
 
-fn answer(register: &[u8], summary: &[u8]) -> char {
-    letter(check(register, summary))
-}
+pub const CHECKED: BySeed = BySeed {
+    last: 2_000,
+    line: checked,
+};
 
 /// The answers against each of the registers in turn.
-pub fn answers(registers: &[Vec<u8>], summary: &[u8]) -> String {
-    let against = |register: &Vec<u8>| answer(register, summary);
-    registers.iter().map(against).collect()
+pub fn check_each(trial: &mut Trial, registers: &[Vec<u8>], summary: &[u8]) {
+    for register in registers {
+        trial.check(register, summary);
+    }
+}
+
+/// A line: which case it is, and these answers.
+fn checked_once(trial: &mut Trial, case: &str, registers: &[Vec<u8>], summary: &[u8]) {
+    trial.text(case);
+    check_each(trial, registers, summary);
+    trial.end_line();
 }
 
 pub fn files<const COUNT: usize>(registers: [Register; COUNT]) -> [Vec<u8>; COUNT] {
     registers.map(|register| register.write())
 }
 
-fn a_and_b() -> [Vec<u8>; 2] {
-    files([register_a(), register_b()])
+/// Both at hand.
+fn a_and_b(trial: &mut Trial) -> [Vec<u8>; 2] {
+    let registers = files([register_a(), register_b()]);
+    trial.hold(&registers);
+    registers
 }
 
 /// SUM.
@@ -80,62 +91,59 @@ pub fn summary_of_a() -> Summary {
 }
 
 /// A fault in the register and in the summary, each with and without the other: "check 1, 2, 3, 6".
-fn print_faulty(out: &mut impl Write) -> io::Result<()> {
-    let whole = summary_of(&base_register(), 1, 1, 1).write();
+fn faulty(trial: &mut Trial) {
+    let whole = trial.make(&base_register().write(), (1, 1, 1));
     let summaries = [&whole[..], &whole[..whole.len() - 1], &[]];
     for (f, register) in sound_and_faulty_files().iter().enumerate() {
         for (g, summary) in summaries.iter().enumerate() {
-            let answer = answer(register, summary);
-            writeln!(out, "faulty {f} {g} {answer}")?;
+            trial.text(&format!("faulty {f} {g} "));
+            trial.check(register, summary);
+            trial.end_line();
         }
     }
-    Ok(())
 }
 
 /// Every byte one more and one less.
-fn print_stepped(out: &mut impl Write) -> io::Result<()> {
-    let registers = a_and_b();
-    let sum = summary_of_a().write();
+fn stepped(trial: &mut Trial) {
+    let registers = a_and_b(trial);
+    let sum = trial.make(&registers[0], (1, 1, 1));
     for place in 0..=111 {
-        let with_byte = |byte| {
+        trial.text(&format!("stepped {place} "));
+        for byte in [sum[place].wrapping_add(1), sum[place].wrapping_sub(1)] {
             let mut stepped = sum.clone();
             stepped[place] = byte;
-            answers(&registers, &stepped)
-        };
-        let one_more = with_byte(sum[place].wrapping_add(1));
-        let one_less = with_byte(sum[place].wrapping_sub(1));
-        writeln!(out, "stepped {place} {one_more}{one_less}")?;
+            check_each(trial, &registers, &stepped);
+        }
+        trial.end_line();
     }
-    Ok(())
 }
 
 /// Numbers in range somewhere, and just out of it.
 const NUMBERS: [usize; 13] = [0, 1, 2, 3, 4, 5, 16, 17, 31, 32, 1_024, 1_025, 65_535];
 
 /// Every field with each of the numbers.
-fn print_fielded(out: &mut impl Write) -> io::Result<()> {
-    let [a, b] = a_and_b();
+fn fielded(trial: &mut Trial) {
+    let registers = a_and_b(trial);
     let sum = summary_of_a().write();
     for field in 0..=55 {
-        let changed = NUMBERS.map(|number| with_number(&sum, 2 * field, number));
-        let against = |register: &[u8]| -> String {
-            let answers = changed.iter().map(|summary| answer(register, summary));
-            answers.collect()
-        };
-        writeln!(out, "fielded {field} {}{}", against(&a), against(&b))?;
+        trial.text(&format!("fielded {field} "));
+        for register in &registers {
+            for number in NUMBERS {
+                trial.check(register, &with_number(&sum, 2 * field, number));
+            }
+        }
+        trial.end_line();
     }
-    Ok(())
 }
 
 /// "Offsets and length are exact": every length up to the right one, and a little more.
-fn print_cut(out: &mut impl Write) -> io::Result<()> {
-    let registers = a_and_b();
+fn cut(trial: &mut Trial) {
+    let registers = a_and_b(trial);
     let sum_and_zeros = [summary_of_a().write(), vec![0; 3]].concat();
     for length in 0..=115 {
-        let answers = answers(&registers, &sum_and_zeros[..length]);
-        writeln!(out, "cut {length} {answers}")?;
+        let case = format!("cut {length} ");
+        checked_once(trial, &case, &registers, &sum_and_zeros[..length]);
     }
-    Ok(())
 }
 
 #[derive(Clone, Copy)]
@@ -158,19 +166,18 @@ pub enum Deed {
 pub const DEEDS: [Deed; 3] = [Deed::LeaveOut, Deed::PutTwice, Deed::ChangePlaces];
 
 /// Each deed at each record of each part.
-fn print_parted(out: &mut impl Write) -> io::Result<()> {
-    let registers = a_and_b();
+fn parted(trial: &mut Trial) {
+    let registers = a_and_b(trial);
     for (p, part) in PARTS.into_iter().enumerate() {
         for record in 0..record_count(part, &summary_of_a()) {
             for (d, deed) in DEEDS.into_iter().enumerate() {
                 let mut summary = summary_of_a();
                 do_deed_in_part(part, record, deed, &mut summary);
-                let answers = answers(&registers, &summary.write());
-                writeln!(out, "parted {p} {record} {d} {answers}")?;
+                let case = format!("parted {p} {record} {d} ");
+                checked_once(trial, &case, &registers, &summary.write());
             }
         }
     }
-    Ok(())
 }
 
 pub fn record_count(part: Part, summary: &Summary) -> usize {
@@ -204,26 +211,22 @@ fn do_deed<Record: Copy>(deed: Deed, at: usize, records: &mut Vec<Record>) {
 }
 
 /// "Any grouping and numbering may be proposed, and the level field is not judged."
-fn print_proposed(out: &mut impl Write) -> io::Result<()> {
+fn proposed(trial: &mut Trial) {
     let registers = files([register_a(), register_b(), empty_register()]);
     for (number, proposed) in PROPOSED.iter().enumerate() {
-        let answers = answers(&registers, &proposed().write());
-        writeln!(out, "proposed {number} {answers}")?;
+        let case = format!("proposed {number} ");
+        checked_once(trial, &case, &registers, &proposed().write());
     }
-    Ok(())
 }
 
 /// Summaries of thrown registers, most of them spoilt, against their own register and another.
-fn print_checked(out: &mut impl Write) -> io::Result<()> {
-    for seed in 1..=2_000 {
-        let dice = &mut Dice::of_seed(seed);
-        let own = seeded_register(seed, dice);
-        let (level, neighbour_cap, class_cap) = thrown_level_and_caps(dice);
-        let mut summary = summary_of(&own, level, neighbour_cap, class_cap).write();
-        spoil(&mut summary, dice);
-        let other = small_register(&mut Dice::of_seed(seed + 10_007));
-        let answers = answers(&files([own, other]), &summary);
-        writeln!(out, "checked {seed} {answers}")?;
-    }
-    Ok(())
+fn checked(trial: &mut Trial, seed: u64) {
+    let dice = &mut Dice::of_seed(seed);
+    let own = seeded_register(seed, dice);
+    let other = small_register(&mut Dice::of_seed(seed + 10_007));
+    let registers = files([own, other]);
+    trial.hold(&registers);
+    let mut summary = trial.make(&registers[0], thrown_level_and_caps(dice));
+    spoil(&mut summary, dice);
+    checked_once(trial, &format!("checked {seed} "), &registers, &summary);
 }

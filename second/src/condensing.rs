@@ -1,6 +1,6 @@
 //! The cases of condensing: registers sound and faulty, condensed into a lent buffer, one line for
-//! each case. Eight families, in this order: range, wide, room, ranked, sized, shape, labelled,
-//! condensed.
+//! each case. Seven families, in this order: range, wide, room, ranked, sized, shape, labelled; and
+//! condensed, which goes by seed.
 //!
 //! Buffer. Before each call it is filled anew: its byte at place p is (7p + 5) mod 256. Where no
 //! other length is told, it has 55,328 bytes.
@@ -34,192 +34,158 @@
 
 use crate::asking::sound_and_faulty_files;
 use crate::caps::LevelAndCaps;
-use crate::cases::{base_register, paired_register};
-use crate::condense::condense;
+use crate::condense::summary_of;
+use crate::families::BySeed;
 use crate::generator::{damage, seeded_register, thrown_level_and_caps, Dice};
-use crate::lent::buffer_after;
-use crate::refusal::Refusal;
+use crate::judging::{base_register, paired_register};
 use crate::shapes::{labelled_register, register_a, SHAPES};
 use crate::summary::MOST_LENGTH;
-use std::fmt;
-use std::io::{self, Write};
+use crate::trial::Trial;
 
 /// Eight bytes more than any summary has.
 pub const ROOM: usize = MOST_LENGTH + 8;
 pub const SMALL_ROOM: usize = 200;
 
-pub fn print(out: &mut impl Write) -> io::Result<()> {
-    print_ranges(out)?;
-    print_wide(out)?;
-    print_rooms(out)?;
-    print_ranked(out)?;
-    print_sized(out)?;
-    print_shapes(out)?;
-    print_labelled(out)?;
-    print_condensed(out)
+pub fn run(trial: &mut Trial) {
+    ranges(trial);
+    wide(trial);
+    rooms(trial);
+    ranked(trial);
+    sized(trial);
+    shapes(trial);
+    labelled(trial);
 }
 
-/// What the call gave, and the hash of the buffer that was lent to it.
-pub struct Answer {
-    length: Result<usize, Refusal>,
-    hash: u32,
+pub const CONDENSED: BySeed = BySeed {
+    last: 2_000,
+    line: condensed,
+};
+
+/// A line: which case it is, and one answer.
+fn condensed_once(
+    trial: &mut Trial,
+    case: &str,
+    register: &[u8],
+    level_and_caps: LevelAndCaps,
+    room: usize,
+) {
+    trial.text(case);
+    trial.condense(register, level_and_caps, room);
+    trial.end_line();
 }
 
-impl Answer {
-    /// Of a call that was lent a buffer of that length, by what it gave to write.
-    pub fn into_lent(room: usize, given: Result<Vec<u8>, Refusal>) -> Answer {
-        let hash = hash(&buffer_after(room, &given));
-        let length = given.map(|bytes| bytes.len());
-        Answer { length, hash }
+/// The answers of a call with that much room; then, by the length written there, with one byte
+/// less, with just as many bytes, and with three more.
+pub fn by_room(trial: &mut Trial, room: usize, call: impl Fn(&mut Trial, usize) -> usize) {
+    let length = call(trial, room);
+    for room in [length.saturating_sub(1), length, length + 3] {
+        trial.text(" ");
+        call(trial, room);
     }
-
-    /// The length that was written, 0 where the call refused.
-    fn written(&self) -> usize {
-        self.length.unwrap_or(0)
-    }
-}
-
-impl fmt::Display for Answer {
-    fn fmt(&self, f: &mut fmt::Formatter<'_>) -> fmt::Result {
-        match self.length {
-            Ok(length) => write!(f, "wrote {length} {}", self.hash),
-            Err(refusal) => write!(f, "refused {} {}", refusal.number(), self.hash),
-        }
-    }
-}
-
-pub fn answer(register: &[u8], (level, mu, nu): LevelAndCaps, room: usize) -> Answer {
-    Answer::into_lent(room, condense(level, mu, nu, register, room))
-}
-
-/// With that much room; then, by the length written there, with one byte less, with just as many
-/// bytes, and with three more.
-pub fn answers_by_room(room: usize, answer: impl Fn(usize) -> Answer) -> [Answer; 4] {
-    let first = answer(room);
-    let length = first.written();
-    let rooms = [length.saturating_sub(1), length, length + 3];
-    let [short, exact, longer] = rooms.map(answer);
-    [first, short, exact, longer]
-}
-
-/// Numbers of 32 bits wrap around at 2^32.
-pub fn hash(bytes: &[u8]) -> u32 {
-    bytes.iter().fold(0, |hash: u32, byte| {
-        hash.wrapping_mul(65_599).wrapping_add(u32::from(*byte) + 1)
-    })
 }
 
 /// "i, µ or ν out of range": each of them in range and on either side of it.
-fn print_ranges(out: &mut impl Write) -> io::Result<()> {
+fn ranges(trial: &mut Trial) {
     let a = register_a().write();
     for i in 0..=5 {
         for mu in 0..=8 {
             for nu in 0..=16 {
-                let answer = answer(&a, (i, mu, nu), SMALL_ROOM);
-                writeln!(out, "range {i} {mu} {nu} {answer}")?;
+                let case = format!("range {i} {mu} {nu} ");
+                condensed_once(trial, &case, &a, (i, mu, nu), SMALL_ROOM);
             }
         }
     }
-    Ok(())
 }
 
 /// Numbers whose low byte is in range, or that are the highest of two bytes.
-fn print_wide(out: &mut impl Write) -> io::Result<()> {
+fn wide(trial: &mut Trial) {
     let a = register_a().write();
     let wide = [1, 257, 65_535];
     for i in wide {
         for mu in wide {
             for nu in wide {
-                let answer = answer(&a, (i, mu, nu), SMALL_ROOM);
-                writeln!(out, "wide {i} {mu} {nu} {answer}")?;
+                let case = format!("wide {i} {mu} {nu} ");
+                condensed_once(trial, &case, &a, (i, mu, nu), SMALL_ROOM);
             }
         }
     }
-    Ok(())
 }
 
 /// A buffer too short, just long enough, and longer.
-fn print_rooms(out: &mut impl Write) -> io::Result<()> {
+fn rooms(trial: &mut Trial) {
     let a = register_a().write();
     for room in 0..=130 {
-        let answer = answer(&a, (1, 1, 1), room);
-        writeln!(out, "room {room} {answer}")?;
+        condensed_once(trial, &format!("room {room} "), &a, (1, 1, 1), room);
     }
-    Ok(())
 }
 
 /// A fault in the register, in level and caps and in the buffer, each with and without the others:
 /// "condense 1, 2, 3 as above, 4, 9".
-fn print_ranked(out: &mut impl Write) -> io::Result<()> {
+fn ranked(trial: &mut Trial) {
     let ones = (1, 1, 1);
-    let whole = answer(&base_register().write(), ones, ROOM).written();
-    let rooms = [SMALL_ROOM, whole - 1, 0];
+    let whole = summary_of(&base_register(), 1, 1, 1).write();
+    let rooms = [SMALL_ROOM, whole.len() - 1, 0];
     for (f, register) in sound_and_faulty_files().iter().enumerate() {
         for (r, level_and_caps) in [ones, (0, 1, 1), (1, 8, 1), (1, 1, 16)].iter().enumerate() {
             for (s, room) in rooms.iter().enumerate() {
-                let answer = answer(register, *level_and_caps, *room);
-                writeln!(out, "ranked {f} {r} {s} {answer}")?;
+                let case = format!("ranked {f} {r} {s} ");
+                condensed_once(trial, &case, register, *level_and_caps, *room);
             }
         }
     }
-    Ok(())
 }
 
 /// Registers at the limits and one past them, at every level and one past either end.
-fn print_sized(out: &mut impl Write) -> io::Result<()> {
+fn sized(trial: &mut Trial) {
     for n in [0, 1, 1_024, 1_025] {
         for m in [0, 1, 2_048, 2_049] {
             let register = paired_register(n, m).write();
             for i in 0..=5 {
-                let answer = answer(&register, (i, 7, 15), ROOM);
-                writeln!(out, "sized {n} {m} {i} {answer}")?;
+                let case = format!("sized {n} {m} {i} ");
+                condensed_once(trial, &case, &register, (i, 7, 15), ROOM);
             }
         }
     }
-    Ok(())
 }
 
 /// Registers whose classes differ much from level to level and from cap to cap, or not at all.
-fn print_shapes(out: &mut impl Write) -> io::Result<()> {
+fn shapes(trial: &mut Trial) {
     for (s, shape) in SHAPES.iter().enumerate() {
         for n in [1, 2, 3, 8, 50, 1_024] {
             let register = shape(n).write();
             for i in 1..=4 {
                 for (mu, nu) in [(1, 1), (2, 3), (7, 15)] {
-                    let answer = answer(&register, (i, mu, nu), ROOM);
-                    writeln!(out, "shape {s} {n} {i} {mu} {nu} {answer}")?;
+                    let case = format!("shape {s} {n} {i} {mu} {nu} ");
+                    condensed_once(trial, &case, &register, (i, mu, nu), ROOM);
                 }
             }
         }
     }
-    Ok(())
 }
 
 /// Registers with links by every label, up to as many as there may be.
-fn print_labelled(out: &mut impl Write) -> io::Result<()> {
+fn labelled(trial: &mut Trial) {
     for seed in 1..=300 {
         let dice = &mut Dice::of_seed(seed);
         let register = labelled_register(dice).write();
-        let answer = answer(&register, thrown_level_and_caps(dice), ROOM);
-        writeln!(out, "labelled {seed} {answer}")?;
+        let case = format!("labelled {seed} ");
+        condensed_once(trial, &case, &register, thrown_level_and_caps(dice), ROOM);
     }
-    Ok(())
 }
 
 /// Thrown registers, some of them damaged, with room to spare, too little, just enough, and a
 /// little more.
-fn print_condensed(out: &mut impl Write) -> io::Result<()> {
-    for seed in 1..=2_000 {
-        let dice = &mut Dice::of_seed(seed);
-        let register = seeded_register(seed, dice);
-        let mut file = register.write();
-        if dice.below(4) == 0 {
-            damage(&mut file, &register, dice);
-        }
-        let level_and_caps = thrown_level_and_caps(dice);
-        let [first, short, exact, longer] =
-            answers_by_room(ROOM, |room| answer(&file, level_and_caps, room));
-        writeln!(out, "condensed {seed} {first} {short} {exact} {longer}")?;
+fn condensed(trial: &mut Trial, seed: u64) {
+    let dice = &mut Dice::of_seed(seed);
+    let register = seeded_register(seed, dice);
+    let mut file = register.write();
+    if dice.below(4) == 0 {
+        damage(&mut file, &register, dice);
     }
-    Ok(())
+    let level_and_caps = thrown_level_and_caps(dice);
+    trial.text(&format!("condensed {seed} "));
+    by_room(trial, ROOM, |trial, room| {
+        trial.condense(&file, level_and_caps, room)
+    });
+    trial.end_line();
 }

@@ -1,5 +1,5 @@
 //! The cases of all five calls, one after the other on one thrown set of inputs, so that faults
-//! meet that no other family brings together. One family.
+//! meet that no other family brings together. One family, which goes by seed.
 //!
 //!   five  seed 1 to 4000. The inputs are those that the generator of inputs for all five calls
 //!         tells. The answer of condensing REG, as for condensing; then three letters, which stand
@@ -9,26 +9,28 @@
 //!
 //! Numbers are decimal, words are parted by one blank, and a line feed ends every line.
 
-use crate::asking::letter;
-use crate::condensing::Answer;
+use crate::families::BySeed;
 use crate::five_generator::Inputs;
-use std::io::{self, Write};
-use std::ops::RangeInclusive;
+use crate::trial::Trial;
 
-pub const SEEDS: RangeInclusive<u64> = 1..=4_000;
+pub const FIVE: BySeed = BySeed {
+    last: 4_000,
+    line: five,
+};
 
-pub fn print(out: &mut impl Write) -> io::Result<()> {
-    for seed in SEEDS {
-        let inputs = Inputs::of_seed(seed);
-        let condensed = Answer::into_lent(inputs.summary_room, inputs.condense());
-        let checked = letter(inputs.check());
-        let of_register = letter(inputs.ask_register());
-        let of_summary = letter(inputs.ask_summary());
-        let listed = Answer::into_lent(inputs.list_room, inputs.list());
-        writeln!(
-            out,
-            "five {seed} {condensed} {checked}{of_register}{of_summary} {listed}"
-        )?;
-    }
-    Ok(())
+/// SUM5 is made of R, as R was made, and spoilt then; REG comes behind it.
+fn five(trial: &mut Trial, seed: u64) {
+    let (inputs, made, made_at) = Inputs::with_made(seed);
+    trial.make(&made.write(), made_at);
+    let item = inputs.item.0;
+    let (register, summary) = (&inputs.register, &inputs.summary);
+    trial.text(&format!("five {seed} "));
+    trial.condense(register, inputs.level_and_caps, inputs.summary_room);
+    trial.text(" ");
+    trial.check(register, summary);
+    trial.ask_register(register, &inputs.question, item..item + 1);
+    trial.ask_summary(summary, &inputs.question, item..item + 1);
+    trial.text(" ");
+    trial.list(summary, &inputs.question, inputs.list_room);
+    trial.end_line();
 }

@@ -62,24 +62,31 @@ pub struct Inputs {
 
 impl Inputs {
     pub fn of_seed(seed: u64) -> Inputs {
+        let (inputs, ..) = Inputs::with_made(seed);
+        inputs
+    }
+
+    /// The inputs, and what SUM5 was made of before it was spoilt: R, and level and caps.
+    pub fn with_made(seed: u64) -> (Inputs, Register, LevelAndCaps) {
         let dice = &mut Dice::of_seed(seed);
         let made = seeded_register(seed, dice);
         let register = changed_register(&made, dice);
-        let (level, neighbour_cap, class_cap) = thrown_level_and_caps(dice);
+        let made_at @ (level, neighbour_cap, class_cap) = thrown_level_and_caps(dice);
         let mut summary = summary_of(&made, level, neighbour_cap, class_cap).write();
         let length = summary.len();
         if dice.below(2) == 1 {
             spoil(&mut summary, dice);
         }
-        Inputs {
+        let inputs = Inputs {
             register,
             summary,
-            level_and_caps: changed_numbers((level, neighbour_cap, class_cap), dice),
+            level_and_caps: changed_numbers(made_at, dice),
             question: damaged_question(dice),
             item: Item(dice.below(10)),
             summary_room: thrown_summary_room(length, dice),
             list_room: thrown_list_room(made.marks.len(), dice),
-        }
+        };
+        (inputs, made, made_at)
     }
 
     pub fn condense(&self) -> Result<Vec<u8>, Refusal> {

@@ -50,9 +50,9 @@
 use crate::asking::sound_and_faulty_files;
 use crate::bytes::{two_at, two_bytes_each, with_number};
 use crate::caps::LevelAndCaps;
-use crate::cases::paired_register;
 use crate::five_generator::Inputs;
 use crate::generator::{large_register, link_offset, put, thrown_level_and_caps, Dice};
+use crate::judging::paired_register;
 use crate::register::{Register, HEADER};
 use crate::shapes::{labelled_register, marked_chain, register_a, SHAPES};
 use std::fs;

@@ -37,55 +37,46 @@
 //!             from it of the question of so many entries 16 1 as the level tells, and then 0 0,
 //!             into 32 bytes.
 
-use crate::answers::{ask_register, ask_summary};
-use crate::asking::letter;
 use crate::bytes::with_number;
-use crate::cases::paired_register;
-use crate::check::check;
 use crate::checking::summary_of_a;
-use crate::condense::summary_of;
-use crate::condensing::{self, answer};
+use crate::condensing;
+use crate::judging::paired_register;
 use crate::link::{Direction, Link, Way};
-use crate::listing::{self, listing, question_of, AT_LEAST_1_OUT, NOT, NOT_FAILED, TRUE};
-use crate::numbers::{Class, Group, Item};
-use crate::refusal::Refusal;
+use crate::listing::{self, question_of, AT_LEAST_1_OUT, NOT, NOT_FAILED, TRUE};
+use crate::numbers::{Class, Group};
 use crate::register::{MOST_ITEMS, MOST_LINKS};
 use crate::shapes::register_a;
 use crate::summary::{ClassEntry, Row, Summary};
-use std::io::{self, Write};
+use crate::trial::Trial;
 
-pub fn print(out: &mut impl Write) -> io::Result<()> {
-    print_limited(out)?;
-    print_vast(out)?;
-    print_lengthy(out)?;
-    print_levelled(out)
-}
-
-/// The letters of asking at each of the items in turn.
-fn letters(items: &[usize], ask: impl Fn(Item) -> Result<bool, Refusal>) -> String {
-    items.iter().map(|item| letter(ask(Item(*item)))).collect()
+pub fn run(trial: &mut Trial) {
+    limited(trial);
+    vast(trial);
+    lengthy(trial);
+    levelled(trial);
 }
 
 /// "1,024 and 1,025 items; 2,048 and 2,049 links", in a register.
-fn print_limited(out: &mut impl Write) -> io::Result<()> {
-    let full = summary_of(&paired_register(1_024, 2_048), 1, 1, 1).write();
+fn limited(trial: &mut Trial) {
+    let full = trial.make(&paired_register(1_024, 2_048).write(), (1, 1, 1));
     let question = question_of(&[AT_LEAST_1_OUT, TRUE]);
     for n in [1_024, 1_025] {
         for m in [2_048, 2_049] {
             let register = paired_register(n, m).write();
-            let condensed = answer(&register, (4, 7, 15), condensing::ROOM);
-            let checked = letter(check(&register, &full));
-            let asked = letters(&[0, 1_023, 1_024], |item| {
-                ask_register(&register, &question, item)
-            });
-            writeln!(out, "limited {n} {m} {condensed} {checked}{asked}")?;
+            trial.text(&format!("limited {n} {m} "));
+            trial.condense(&register, (4, 7, 15), condensing::ROOM);
+            trial.text(" ");
+            trial.check(&register, &full);
+            for item in [0, 1_023, 1_024] {
+                trial.ask_register(&register, &question, item..item + 1);
+            }
+            trial.end_line();
         }
     }
-    Ok(())
 }
 
 /// The same in a summary, where the classes have a limit too: "c, n ≤ 1,024, r ≤ 4,096, e ≤ 2,048".
-fn print_vast(out: &mut impl Write) -> io::Result<()> {
+fn vast(trial: &mut Trial) {
     let register = paired_register(1_024, 2_048).write();
     let two_out = question_of(&[(16, 2), TRUE]);
     let eight_in = question_of(&[(32, 8), TRUE]);
@@ -93,20 +84,19 @@ fn print_vast(out: &mut impl Write) -> io::Result<()> {
         for n in [1_024, 1_025] {
             for e in [2_048, 2_049] {
                 let summary = contractors_summary(c, n, e).write();
-                let checked = letter(check(&register, &summary));
-                let asked = letters(&[0, 1_023, 1_024], |item| {
-                    ask_summary(&summary, &two_out, item)
-                });
-                let [two_out, eight_in] = [&two_out, &eight_in]
-                    .map(|question| listing(&summary, question, listing::ROOM));
-                writeln!(
-                    out,
-                    "vast {c} {n} {e} {checked}{asked} {two_out} {eight_in}"
-                )?;
+                trial.text(&format!("vast {c} {n} {e} "));
+                trial.check(&register, &summary);
+                for item in [0, 1_023, 1_024] {
+                    trial.ask_summary(&summary, &two_out, item..item + 1);
+                }
+                for question in [&two_out, &eight_in] {
+                    trial.text(" ");
+                    trial.list(&summary, question, listing::ROOM);
+                }
+                trial.end_line();
             }
         }
     }
-    Ok(())
 }
 
 /// A summary of c classes in one group, n items and e class links; with 1,024, 1,024 and 2,048 that
@@ -172,35 +162,40 @@ fn contractors_rows(one_link_more: bool) -> Vec<Row> {
 }
 
 /// "64 and 65 entries."
-fn print_lengthy(out: &mut impl Write) -> io::Result<()> {
+fn lengthy(trial: &mut Trial) {
     let a = register_a().write();
-    let sum = summary_of_a().write();
+    let sum = trial.make(&a, (1, 1, 1));
     for entries in 63..=66 {
         let question = question_of(&[vec![NOT; entries - 1], vec![NOT_FAILED]].concat());
-        let items = [0, 5, 6];
-        let of_a = letters(&items, |item| ask_register(&a, &question, item));
-        let of_sum = letters(&items, |item| ask_summary(&sum, &question, item));
-        let listing = listing(&sum, &question, listing::SMALL_ROOM);
-        writeln!(out, "lengthy {entries} {of_a}{of_sum} {listing}")?;
+        trial.text(&format!("lengthy {entries} "));
+        for item in [0, 5, 6] {
+            trial.ask_register(&a, &question, item..item + 1);
+        }
+        for item in [0, 5, 6] {
+            trial.ask_summary(&sum, &question, item..item + 1);
+        }
+        trial.text(" ");
+        trial.list(&sum, &question, listing::SMALL_ROOM);
+        trial.end_line();
     }
-    Ok(())
 }
 
 /// "Level 0, 4, 5", and the others.
-fn print_levelled(out: &mut impl Write) -> io::Result<()> {
+fn levelled(trial: &mut Trial) {
     let a = register_a().write();
     let out_to_failed = question_of(&[AT_LEAST_1_OUT, (1, 4)]);
     for level in 0..=6 {
-        let condensed = answer(&a, (level, 1, 1), condensing::SMALL_ROOM);
         let sum = with_number(&summary_of_a().write(), 0, level);
-        let checked = letter(check(&a, &sum));
-        let asked = letters(&[2, 0], |item| ask_summary(&sum, &out_to_failed, item));
         let as_deep = question_of(&[vec![AT_LEAST_1_OUT; level], vec![TRUE]].concat());
-        let listing = listing(&sum, &as_deep, listing::SMALL_ROOM);
-        writeln!(
-            out,
-            "levelled {level} {condensed} {checked}{asked} {listing}"
-        )?;
+        trial.text(&format!("levelled {level} "));
+        trial.condense(&a, (level, 1, 1), condensing::SMALL_ROOM);
+        trial.text(" ");
+        trial.check(&a, &sum);
+        for item in [2, 0] {
+            trial.ask_summary(&sum, &out_to_failed, item..item + 1);
+        }
+        trial.text(" ");
+        trial.list(&sum, &as_deep, listing::SMALL_ROOM);
+        trial.end_line();
     }
-    Ok(())
 }

@@ -1,6 +1,6 @@
 //! The cases of asking and listing from a summary: questions asked of summaries and listed from
-//! them into a lent buffer, one line for each case. Seven families, in this order: ordered, three,
-//! reached, counted, foreign, lent, found.
+//! them into a lent buffer, one line for each case. Six families, in this order: ordered, three,
+//! reached, counted, foreign, lent; and found, which goes by seed.
 //!
 //! Letter. `y` or `n` for what asking at an item says, or the digit of the refusal. Several letters
 //! stand together without a blank.
@@ -45,20 +45,16 @@
 //! The twelve entries: 0 is 0 0, true; 1 is 1 1; 2 is 1 3; 3 is 1 252, literal −4; 4 is 2 0, not; 5
 //! is 3 0, and; 6 is 4 0, or; 7 is 16 1; 8 is 16 2; 9 is 16 3; 10 is 32 1; 11 is 33 1.
 
-use crate::answers::{ask_summary, list_from_summary};
-use crate::asking::{self, letter};
 use crate::checking::summary_of_a;
-use crate::condense::summary_of;
-use crate::condensing::{answers_by_room, Answer};
+use crate::condensing::by_room;
+use crate::families::BySeed;
 use crate::generator::{seeded_register, thrown_level_and_caps, Dice};
-use crate::numbers::Item;
 use crate::proposed::PROPOSED;
 use crate::question::entry;
 use crate::question_generator::damaged_question;
 use crate::register::MOST_ITEMS;
 use crate::shapes::{chain, star};
-use std::io::{self, Write};
-use std::ops::Range;
+use crate::trial::Trial;
 
 /// Eight bytes more than any list has.
 pub const ROOM: usize = 2 * MOST_ITEMS + 8;
@@ -72,34 +68,37 @@ pub const NOT_FAILED: Entry = (1, 252);
 pub const NOT: Entry = (2, 0);
 pub const AT_LEAST_1_OUT: Entry = (16, 1);
 
-pub fn print(out: &mut impl Write) -> io::Result<()> {
-    print_ordered(out)?;
-    print_three(out)?;
-    print_reached(out)?;
-    print_counted(out)?;
-    print_foreign(out)?;
-    print_lent(out)?;
-    print_found(out)
+pub fn run(trial: &mut Trial) {
+    ordered(trial);
+    three(trial);
+    reached(trial);
+    counted(trial);
+    foreign(trial);
+    lent(trial);
 }
+
+pub const FOUND: BySeed = BySeed {
+    last: 2_000,
+    line: found,
+};
 
 pub fn question_of(entries: &[Entry]) -> Vec<u8> {
     let bytes = |(first, second): &Entry| entry(*first, *second);
     entries.iter().flat_map(bytes).collect()
 }
 
-/// The letters of asking the summary at each of the items in turn.
-pub fn letters(summary: &[u8], question: &[u8], items: Range<usize>) -> String {
-    let asked = |item| letter(ask_summary(summary, question, Item(item)));
-    items.map(asked).collect()
-}
-
-pub fn listing(summary: &[u8], question: &[u8], room: usize) -> Answer {
-    Answer::into_lent(room, list_from_summary(summary, question, room))
+/// A line: which case it is, so many letters from item 0 on, and a listing into the small room.
+fn asked_and_listed(trial: &mut Trial, case: &str, summary: &[u8], question: &[u8], items: usize) {
+    trial.text(case);
+    trial.ask_summary(summary, question, 0..items);
+    trial.text(" ");
+    trial.list(summary, question, SMALL_ROOM);
+    trial.end_line();
 }
 
 /// A fault in the summary, in the question and in the item number or the buffer, each with and
 /// without the others: "ask a summary 6, 5, 7, 8; list from a summary 6, 5, 7, 9".
-fn print_ordered(out: &mut impl Write) -> io::Result<()> {
+fn ordered(trial: &mut Trial) {
     let sum = summary_of_a().write();
     let questions: [&[Entry]; 4] = [
         &[NOT_FAILED],
@@ -110,14 +109,17 @@ fn print_ordered(out: &mut impl Write) -> io::Result<()> {
     for (f, summary) in [&sum[..], &sum[..sum.len() - 1]].into_iter().enumerate() {
         for (g, question) in questions.iter().enumerate() {
             let question = question_of(question);
-            let letters = [0, 6].map(|item| letters(summary, &question, item..item + 1));
-            let letters = letters.concat();
-            let rooms = [10, 9, 0];
-            let [exact, short, none] = rooms.map(|room| listing(summary, &question, room));
-            writeln!(out, "ordered {f} {g} {letters} {exact} {short} {none}")?;
+            trial.text(&format!("ordered {f} {g} "));
+            for item in [0, 6] {
+                trial.ask_summary(summary, &question, item..item + 1);
+            }
+            for room in [10, 9, 0] {
+                trial.text(" ");
+                trial.list(summary, &question, room);
+            }
+            trial.end_line();
         }
     }
-    Ok(())
 }
 
 /// The twelve entries, by their number.
@@ -140,18 +142,18 @@ const ENTRIES: [Entry; 12] = [
 const NO_ENTRY: usize = ENTRIES.len();
 
 /// Every question of up to three of the twelve entries, sound or malformed.
-fn print_three(out: &mut impl Write) -> io::Result<()> {
+fn three(trial: &mut Trial) {
     let sum = summary_of_a().write();
     for a in 0..NO_ENTRY {
         for b in 0..=NO_ENTRY {
             let lowest_third = if b == NO_ENTRY { NO_ENTRY } else { 0 };
-            let letters: String = (lowest_third..=NO_ENTRY)
-                .map(|c| letters(&sum, &numbered_question([a, b, c]), 0..6))
-                .collect();
-            writeln!(out, "three {a} {b} {letters}")?;
+            trial.text(&format!("three {a} {b} "));
+            for c in lowest_third..=NO_ENTRY {
+                trial.ask_summary(&sum, &numbered_question([a, b, c]), 0..6);
+            }
+            trial.end_line();
         }
     }
-    Ok(())
 }
 
 /// The question of the entries with these numbers, without those that are none.
@@ -161,39 +163,35 @@ fn numbered_question(numbers: [usize; 3]) -> Vec<u8> {
 }
 
 /// Questions as deep as the level, less deep, and deeper: "question deeper than i".
-fn print_reached(out: &mut impl Write) -> io::Result<()> {
-    let chain = chain(8);
+fn reached(trial: &mut Trial) {
+    let chain = chain(8).write();
     for i in 1..=4 {
-        let summary = summary_of(&chain, i, 1, 1).write();
+        let summary = trial.make(&chain, (i, 1, 1));
         for depth in 0..=5 {
             let question = question_of(&[vec![AT_LEAST_1_OUT; depth], vec![TRUE]].concat());
-            let letters = letters(&summary, &question, 0..8);
-            let listing = listing(&summary, &question, SMALL_ROOM);
-            writeln!(out, "reached {i} {depth} {letters} {listing}")?;
+            let case = format!("reached {i} {depth} ");
+            asked_and_listed(trial, &case, &summary, &question, 8);
         }
     }
-    Ok(())
 }
 
 /// Every threshold under every neighbour cap, at an item with eight neighbours and at one with
 /// none: "a threshold above µ + 1".
-fn print_counted(out: &mut impl Write) -> io::Result<()> {
-    let star = star(9);
+fn counted(trial: &mut Trial) {
+    let star = star(9).write();
     for mu in 1..=7 {
-        let summary = summary_of(&star, 1, mu, 1).write();
+        let summary = trial.make(&star, (1, mu, 1));
         for t in 1..=8 {
             let question = question_of(&[(16, t), TRUE]);
-            let letters = letters(&summary, &question, 0..2);
-            let listing = listing(&summary, &question, SMALL_ROOM);
-            writeln!(out, "counted {mu} {t} {letters} {listing}")?;
+            let case = format!("counted {mu} {t} ");
+            asked_and_listed(trial, &case, &summary, &question, 2);
         }
     }
-    Ok(())
 }
 
 /// Summaries that condensing does not write: "an operand holds at a group when it holds at the
 /// group's lowest-numbered class", whatever the others in it are.
-fn print_foreign(out: &mut impl Write) -> io::Result<()> {
+fn foreign(trial: &mut Trial) {
     let questions: [&[Entry]; 8] = [
         &[TRUE],
         &[(1, 4)],
@@ -208,39 +206,37 @@ fn print_foreign(out: &mut impl Write) -> io::Result<()> {
         let summary = proposed().write();
         for (q, question) in questions.iter().enumerate() {
             let question = question_of(question);
-            let letters = letters(&summary, &question, 0..6);
-            let listing = listing(&summary, &question, SMALL_ROOM);
-            writeln!(out, "foreign {number} {q} {letters} {listing}")?;
+            let case = format!("foreign {number} {q} ");
+            asked_and_listed(trial, &case, &summary, &question, 6);
         }
     }
-    Ok(())
 }
 
 /// A buffer too short, just long enough, and longer.
-fn print_lent(out: &mut impl Write) -> io::Result<()> {
+fn lent(trial: &mut Trial) {
     let sum = summary_of_a().write();
     for room in 0..=20 {
-        let listing = listing(&sum, &question_of(&[NOT_FAILED]), room);
-        writeln!(out, "lent {room} {listing}")?;
+        trial.text(&format!("lent {room} "));
+        trial.list(&sum, &question_of(&[NOT_FAILED]), room);
+        trial.end_line();
     }
-    Ok(())
 }
 
 /// Thrown questions on summaries of thrown registers, and what the registers themselves say.
-fn print_found(out: &mut impl Write) -> io::Result<()> {
-    for seed in 1..=2_000 {
-        let dice = &mut Dice::of_seed(seed);
-        let register = seeded_register(seed, dice);
-        let (level, neighbour_cap, class_cap) = thrown_level_and_caps(dice);
-        let summary = summary_of(&register, level, neighbour_cap, class_cap).write();
-        let question = damaged_question(dice);
-        let [first, short, exact, longer] =
-            answers_by_room(ROOM, |room| listing(&summary, &question, room));
-        let items = 0..register.marks.len().min(9) + 1;
-        let of_summary = letters(&summary, &question, items.clone());
-        let of_register = asking::answers(&register.write(), &question, items);
-        write!(out, "found {seed} {first} {short} {exact} {longer} ")?;
-        writeln!(out, "{of_summary} {of_register}")?;
-    }
-    Ok(())
+fn found(trial: &mut Trial, seed: u64) {
+    let dice = &mut Dice::of_seed(seed);
+    let register = seeded_register(seed, dice);
+    let items = 0..register.marks.len().min(9) + 1;
+    let register = register.write();
+    let summary = trial.make(&register, thrown_level_and_caps(dice));
+    let question = damaged_question(dice);
+    trial.text(&format!("found {seed} "));
+    by_room(trial, ROOM, |trial, room| {
+        trial.list(&summary, &question, room)
+    });
+    trial.text(" ");
+    trial.ask_summary(&summary, &question, items.clone());
+    trial.text(" ");
+    trial.ask_register(&register, &question, items);
+    trial.end_line();
 }

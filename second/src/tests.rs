@@ -1,14 +1,17 @@
-//! The tests: the document's examples by number, its limits, the refusals and their orders, the
-//! law that a summary answers as its register does, and the printed cases of asking, of condensing,
-//! of checking, of listing, of the run at the limits and of all five calls, with the counts of the
-//! last; and the inputs of the condensing program. What they share stands here.
+//! The tests: the document's examples by number, its limits, the refusals and their orders, the law
+//! that a summary answers as its register does, and the printed cases of asking, of condensing, of
+//! checking, of listing, of the run at the limits and of all five calls, with the counts of the
+//! last; the inputs of the condensing program; the order of all lines; and the commands of the
+//! trial, carried out. What they share stands here.
 
 mod asking;
 mod check;
 mod checking;
 mod condensing;
 mod counts;
+mod difference;
 mod examples;
+mod families;
 mod five;
 mod inputs;
 mod limits;
@@ -16,16 +19,27 @@ mod limits_run;
 mod listing;
 mod property;
 mod refusals;
+mod replay;
 mod wrecked;
 
 use crate::answers::{ask_register, ask_summary, list_from_summary};
 use crate::bytes::{two_bytes_each, with_number};
 use crate::condense::condense;
+use crate::families::{run_by_seed, BySeed};
 use crate::link::Link;
 use crate::numbers::Item;
 use crate::refusal::Refusal;
 use crate::register::Register;
 use crate::summary::{Summary, MOST_LENGTH};
+use crate::trial::Trial;
+
+/// The lines of some families by themselves, and behind them those of families that go by seed.
+fn printed_by(run: fn(&mut Trial), by_seed: &[BySeed]) -> String {
+    let mut trial = Trial::default();
+    run(&mut trial);
+    run_by_seed(&mut trial, by_seed);
+    trial.lines().to_string()
+}
 
 const HOIST: u32 = 1;
 const PASSED: u32 = 6;

@@ -1,4 +1,4 @@
-//! The last family of checking, wrecked: a thrown summary changed wherever it can be, and checked
+//! One more family of checking, wrecked: a thrown summary changed wherever it can be, and checked
 //! after each change against its own register and against another. One line for each seed and kind
 //! of change.
 //!
@@ -23,12 +23,11 @@
 //! line feed ends every line.
 
 use crate::bytes::with_number;
-use crate::checking::{answers, do_deed_in_part, files, record_count, DEEDS, PARTS};
+use crate::checking::{check_each, do_deed_in_part, files, record_count, DEEDS, PARTS};
 use crate::condense::summary_of;
-use crate::condensing::hash;
 use crate::generator::{small_register, thrown_level_and_caps, Dice};
 use crate::summary::Summary;
-use std::io::{self, Write};
+use crate::trial::Trial;
 
 /// A kind of change hands on each file that it makes of the summary.
 type Kind = fn(&Summary, &mut dyn FnMut(&[u8]));
@@ -36,23 +35,26 @@ type Kind = fn(&Summary, &mut dyn FnMut(&[u8]));
 /// The kinds, by their number.
 const KINDS: [Kind; 4] = [step_bytes, replace_fields, do_deeds, change_length];
 
-pub fn print(out: &mut impl Write) -> io::Result<()> {
+pub fn run(trial: &mut Trial) {
     for seed in 1..=24 {
         let dice = &mut Dice::of_seed(seed);
         let own = small_register(dice);
-        let (level, neighbour_cap, class_cap) = thrown_level_and_caps(dice);
+        let numbers @ (level, neighbour_cap, class_cap) = thrown_level_and_caps(dice);
         let summary = summary_of(&own, level, neighbour_cap, class_cap);
         let other = small_register(&mut Dice::of_seed(seed + 10_007));
         let registers = files([own, other]);
+        trial.make(&registers[0], numbers);
+        trial.hold(&registers);
         for (k, kind) in KINDS.iter().enumerate() {
-            let mut given = String::new();
+            trial.text(&format!("wrecked {seed} {k} "));
+            trial.open_tally();
             kind(&summary, &mut |changed| {
-                given += &answers(&registers, changed);
+                check_each(trial, &registers, changed);
             });
-            writeln!(out, "wrecked {seed} {k} {}", told(&given))?;
+            trial.close_tally();
+            trial.end_line();
         }
     }
-    Ok(())
 }
 
 /// Every byte one more and one less.
@@ -96,18 +98,4 @@ fn change_length(summary: &Summary, hand_on: &mut dyn FnMut(&[u8])) {
     for length in 0..=file_and_zeros.len() {
         hand_on(&file_and_zeros[..length]);
     }
-}
-
-/// What the line says of the answers, which stand by twos: own, other.
-pub fn told(given: &str) -> String {
-    let count = |which: usize, wanted: u8| {
-        let against_one = given.bytes().skip(which).step_by(2);
-        against_one.filter(|answer| *answer == wanted).count()
-    };
-    let counts = [0, 1].map(|which| {
-        let [yes, no, refused] = [b'y', b'n', b'6'].map(|wanted| count(which, wanted));
-        format!("{yes} {no} {refused}")
-    });
-    let changes = given.len() / 2;
-    format!("{changes} {} {}", counts.join(" "), hash(given.as_bytes()))
 }

@@ -1,6 +1,7 @@
 //! The printed cases of asking: how many lines each family has, that every answer there can be is
 //! given somewhere, and the answers that are known without asking.
 
+use super::printed_by;
 use crate::asking;
 use crate::generator::{small_register, Dice};
 use crate::question::{Question, ENTRY};
@@ -16,18 +17,16 @@ const FAMILIES: [(&str, usize); 10] = [
     ("bytes", 14),
     ("nested", 8),
     ("order", 16),
-    ("asked", 2_000),
     ("around", 32),
     ("steps", 16),
+    ("asked", 2_000),
 ];
 
 /// The family and the answers of every line, in the order printed.
 static LINES: LazyLock<Vec<(String, String)>> = LazyLock::new(printed_lines);
 
 fn printed_lines() -> Vec<(String, String)> {
-    let mut out = Vec::new();
-    asking::print(&mut out).expect("a vector takes every byte");
-    let text = String::from_utf8(out).expect("only digits, words and blanks");
+    let text = printed_by(asking::run, &[asking::ASKED]);
     let ends = |line: &str| {
         let (family, _) = line.split_once(' ').expect("a family first");
         let (_, answers) = line.rsplit_once(' ').expect("answers last");

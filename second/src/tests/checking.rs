@@ -34,9 +34,7 @@ struct Line {
 static LINES: LazyLock<Vec<Line>> = LazyLock::new(printed_lines);
 
 fn printed_lines() -> Vec<Line> {
-    let mut out = Vec::new();
-    checking::print(&mut out).expect("a vector takes every byte");
-    let text = String::from_utf8(out).expect("only digits, words and blanks");
+    let text = printed_by(checking::run, &[checking::CHECKED]);
     text.lines().map(taken_apart).collect()
 }
 

@@ -2,9 +2,10 @@
 //! from, the answers that are known without condensing, and what becomes of the lent buffer.
 
 use super::*;
-use crate::condensing::{self, hash};
+use crate::condensing;
 use crate::generator::Dice;
 use crate::lent::filled_buffer;
+use crate::said::hash;
 use crate::shapes::{self, labelled_register, SHAPES};
 use std::collections::BTreeSet;
 use std::sync::LazyLock;
@@ -35,9 +36,7 @@ struct Line {
 static LINES: LazyLock<Vec<Line>> = LazyLock::new(printed_lines);
 
 fn printed_lines() -> Vec<Line> {
-    let mut out = Vec::new();
-    condensing::print(&mut out).expect("a vector takes every byte");
-    let text = String::from_utf8(out).expect("only digits, words and blanks");
+    let text = printed_by(condensing::run, &[condensing::CONDENSED]);
     text.lines().map(taken_apart).collect()
 }
 

@@ -5,11 +5,11 @@ use super::listing::written;
 use super::*;
 use crate::check::check;
 use crate::condense::summary_of;
-use crate::condensing::hash;
-use crate::five;
+use crate::five::FIVE;
 use crate::five_generator::Inputs;
 use crate::generator::{seeded_register, Dice};
 use crate::lent::filled_buffer;
+use crate::said::hash;
 use std::sync::LazyLock;
 
 /// A seed, its inputs, and what its line says. The two answers that write are their first two
@@ -25,9 +25,7 @@ struct Line {
 static LINES: LazyLock<Vec<Line>> = LazyLock::new(printed_lines);
 
 fn printed_lines() -> Vec<Line> {
-    let mut out = Vec::new();
-    five::print(&mut out).expect("a vector takes every byte");
-    let text = String::from_utf8(out).expect("only digits, words and blanks");
+    let text = printed_by(|_| {}, &[FIVE]);
     text.lines().map(taken_apart).collect()
 }
 

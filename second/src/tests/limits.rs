@@ -2,9 +2,9 @@
 //! caps, and the room for an answer.
 
 use super::*;
-use crate::cases::paired_register;
 use crate::check::check;
 use crate::generator::{large_register, Dice};
+use crate::judging::paired_register;
 use crate::program;
 
 #[test]

@@ -3,14 +3,12 @@
 
 use super::listing::{refused, written};
 use super::*;
-use crate::condensing::hash;
 use crate::lent::filled_buffer;
 use crate::limits_run::{self, contractors_summary};
+use crate::said::hash;
 
 fn printed_lines_of(family: &str) -> Vec<String> {
-    let mut out = Vec::new();
-    limits_run::print(&mut out).expect("a vector takes every byte");
-    let text = String::from_utf8(out).expect("only digits, words and blanks");
+    let text = printed_by(limits_run::run, &[]);
     let own = text
         .lines()
         .filter(|line| line.split(' ').next() == Some(family));
@@ -30,9 +28,7 @@ fn wrote(file: &[u8], room: usize) -> String {
 
 #[test]
 fn four_families_and_no_more() {
-    let mut out = Vec::new();
-    limits_run::print(&mut out).expect("a vector takes every byte");
-    let text = String::from_utf8(out).expect("only digits, words and blanks");
+    let text = printed_by(limits_run::run, &[]);
     let families = ["limited", "vast", "lengthy", "levelled"];
     let lines = families.iter().flat_map(|family| printed_lines_of(family));
     assert!(text.lines().eq(lines));

@@ -2,9 +2,9 @@
 //! letters and lists that the document settles, and what becomes of the lent buffer.
 
 use super::*;
-use crate::condensing::hash;
 use crate::lent::filled_buffer;
-use crate::listing::{self, letters, listing};
+use crate::listing;
+use crate::said::{self, hash};
 use std::collections::BTreeSet;
 use std::sync::LazyLock;
 
@@ -30,9 +30,7 @@ struct Line {
 static LINES: LazyLock<Vec<Line>> = LazyLock::new(printed_lines);
 
 fn printed_lines() -> Vec<Line> {
-    let mut out = Vec::new();
-    listing::print(&mut out).expect("a vector takes every byte");
-    let text = String::from_utf8(out).expect("only digits, words and blanks");
+    let text = printed_by(listing::run, &[listing::FOUND]);
     text.lines().map(taken_apart).collect()
 }
 
@@ -223,9 +221,11 @@ fn assert_two_at_the_hoist(hooks: &[u32], neighbour_cap: usize) {
     let summary = summary(1, neighbour_cap, 1, &hoist_with(hooks));
     let question = [out_by(0, 2), TRUE].concat();
     let expected = format!("y{}", "n".repeat(hooks.len()));
-    assert_eq!(letters(&summary, &question, 0..hooks.len() + 1), expected);
+    let asked = |item| said::letter(ask_summary(&summary, &question, Item(item)));
+    let letters: String = (0..=hooks.len()).map(asked).collect();
+    assert_eq!(letters, expected);
     let (said, hash) = written(&[0], 32);
-    let listing = listing(&summary, &question, 32).to_string();
+    let listing = said::answer(32, &list_from_summary(&summary, &question, 32));
     assert_eq!(listing, format!("{said} {hash}"));
 }
 

@@ -131,7 +131,7 @@ fn the_program_refuses() {
     );
     assert_eq!(printed(&input(0, &with_number(&a, 38, 16))), "refused 3\n");
     assert_eq!(printed(&input(257, &a)), "refused 4\n");
-    let most = crate::cases::paired_register(1_024, 2_048).write();
+    let most = crate::judging::paired_register(1_024, 2_048).write();
     assert!(printed(&input(1, &most)).starts_with("summary 1 1 1 "));
     let one_more = [most, vec![0]].concat();
     assert_eq!(printed(&input(1, &one_more)), "refused 1\n");

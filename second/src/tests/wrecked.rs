@@ -5,11 +5,11 @@ use super::*;
 use crate::bytes::two_at;
 use crate::caps::{self, capped};
 use crate::condense::summary_of;
-use crate::condensing::hash;
 use crate::generator::{small_register, thrown_level_and_caps, Dice};
 use crate::neighbours::neighbour_counts;
+use crate::said::{hash, tally};
 use crate::summary::ClassEntry;
-use crate::wrecked::{self, told};
+use crate::wrecked;
 use std::sync::LazyLock;
 
 /// The counts of answers: yes, no, not well formed.
@@ -27,9 +27,7 @@ struct Line {
 static LINES: LazyLock<Vec<Line>> = LazyLock::new(printed_lines);
 
 fn printed_lines() -> Vec<Line> {
-    let mut out = Vec::new();
-    wrecked::print(&mut out).expect("a vector takes every byte");
-    let text = String::from_utf8(out).expect("only digits, words and blanks");
+    let text = printed_by(wrecked::run, &[]);
     text.lines().map(taken_apart).collect()
 }
 
@@ -175,8 +173,8 @@ fn lengths_known_beforehand() {
 }
 
 #[test]
-fn told_of_few_answers() {
-    assert_eq!(told(""), "0 0 0 0 0 0 0 0");
+fn tally_of_few_letters() {
+    assert_eq!(tally(""), "0 0 0 0 0 0 0 0");
     let hashed = hash(b"yn66yn");
-    assert_eq!(told("yn66yn"), format!("3 2 0 1 0 2 1 {hashed}"));
+    assert_eq!(tally("yn66yn"), format!("3 2 0 1 0 2 1 {hashed}"));
 }

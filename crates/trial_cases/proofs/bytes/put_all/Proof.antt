@@ -1,0 +1,52 @@
+-- The loop ends, and what is lent keeps its length.
+use mathlib.Core.Path.{_≡_}
+use Prim.Native.Nat.{_-_, _≤_}
+use lib.ListN.{length}
+use borrow.Author.Needs.{needs}
+use Rattle.trial_cases.proofs.bytes.put_all.Statement.{statement}
+use Rattle.trial_cases.proofs.bytes.put_all.Tie as tie
+
+abbrev Inv-loop : tie.InvT-loop
+Inv-loop b₀ at values now₀ k₀ b now k = (k ≤ length values) × (length b ≡ length b₀)
+
+abbrev μ-loop : tie.MeasureT-loop
+μ-loop b₀ at values now₀ k₀ b now k = length values - k
+
+loop-holds : tie.Need-loop-holds Inv-loop μ-loop
+loop-holds c = search needs
+
+shared-slice-read-put : tie.Need-shared-slice-read-put Inv-loop μ-loop
+shared-slice-read-put c = search needs
+
+put-requires : tie.Need-put-requires Inv-loop μ-loop
+put-requires c κs = search needs
+
+add-k : tie.Need-add-k Inv-loop μ-loop
+add-k c = search needs
+
+loop-less : tie.Need-loop-less Inv-loop μ-loop
+loop-less c = search needs
+
+loop-again : tie.Need-loop-again Inv-loop μ-loop
+loop-again c = search needs
+
+same-length : tie.Need-same-length Inv-loop μ-loop
+same-length c = search needs
+
+returns : tie.Need-returns Inv-loop μ-loop
+returns c = search needs
+
+pub put-all-spec : {M : Type 1} → statement M
+put-all-spec =
+    tie.close
+    (tie.spec
+    Inv-loop
+    μ-loop
+    loop-holds
+    shared-slice-read-put
+    put-requires
+    add-k
+    loop-less
+    loop-again
+    same-length
+    returns)
