@@ -14,7 +14,7 @@ use Rattle.meaning.specs.declared.Refusal.the-variants as refusal
 use Rattle.meaning.specs.Answers.{Answer, refused, said, wrote, returned, code, left, condense, check, askRegister, askSummary, list}
 use Rattle.meaning.specs.Figures.{A, chain, three, empty, marked, aLink, drawn, crossed, byTarget, doubled, knot, fifteen, uneven}
 use Rattle.meaning.specs.Figures.{S1, none, aClass, aRow, proposed, classesA, outA, outA2, inA, inA2, rowsA, linksA, mapA}
-use Rattle.meaning.specs.Figures.{classed, rowed, linked, mapped, chained, fifteenAs, fifteenInTwo, knotSummary, crossedSummary}
+use Rattle.meaning.specs.Figures.{classed, rowed, linked, mapped, chained, threeAs, fifteenAs, fifteenInTwo, knotSummary, crossedSummary}
 use Rattle.meaning.specs.Figures.{ring, disagreeing, sized, crowd}
 use Rattle.meaning.specs.Figures.{entry, literal, out, incoming, truth, negated, conjoined, disjoined, deep, nots}
 
@@ -222,7 +222,6 @@ wellFormedness =
     so (said (sizes (sized 0 1025 0 0))) (said false) ∷
     so (said (sizes (sized 0 0 4097 0))) (said false) ∷
     so (said (sizes (sized 0 0 0 2049))) (said false) ∷
-    so (said (wellFormed (crowd 1024))) (said true) ∷
     so (said (wellFormed (crowd 1025))) (said false) ∷
     -- "class, group and label numbers and directions are in range", "class counts are 1 to ν + 1 and row counts 1 to µ + 1"
     so (read (classed (aClass 0 2 1))) (said true) ∷
@@ -286,8 +285,8 @@ checking =
     so (check chain (chained (aLink 0 0 1 ∷ aLink 1 0 1 ∷ aLink 1 0 2 ∷ []))) (said true) ∷
     so (check fifteen (fifteenAs 1)) (said true) ∷
     so (check knot knotSummary) (said true) ∷
-    so (check three (bytes (condense 1 1 1 three 999))) (said true) ∷
-    so (check three (bytes (condense 1 2 2 three 999))) (said true) ∷
+    so (check three (threeAs 2)) (said true) ∷
+    so (check three (set (set (threeAs 3) 3 2) 5 2)) (said true) ∷
     -- "the item counts agree"
     so (check A (mapped 3)) (said false) ∷
     -- "each item's marks equal its class's": the last item's

@@ -138,7 +138,7 @@ unfolding passes table numbered same equal counts asked row
     Figures.A Figures.chain Figures.three Figures.pair Figures.empty Figures.marked Figures.aLink Figures.drawn Figures.crossed Figures.byTarget
     Figures.doubled Figures.knot Figures.fifteen Figures.uneven Figures.S1 Figures.none Figures.aClass Figures.aRow Figures.picture
     Figures.proposed Figures.classesA Figures.outA Figures.outA2 Figures.inA Figures.inA2 Figures.rowsA Figures.linksA Figures.mapA
-    Figures.classed Figures.rowed Figures.linked Figures.mapped Figures.chained Figures.fifteenAs Figures.fifteenInTwo Figures.knotSummary
+    Figures.classed Figures.rowed Figures.linked Figures.mapped Figures.chained Figures.threeAs Figures.fifteenAs Figures.fifteenInTwo Figures.knotSummary
     Figures.crossedSummary Figures.ring Figures.disagreeing Figures.sized Figures.crowd Figures.entry Figures.literal Figures.out
     Figures.incoming Figures.truth Figures.negated Figures.conjoined Figures.disjoined Figures.deep Figures.nots
     Count.sum Count.all Count.those Count.seek Count.tab Count.join Count.total Count.any Count.each Count.ascends

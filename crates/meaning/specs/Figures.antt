@@ -161,6 +161,11 @@ chained ls =
     proposed 1 (aClass 0 0 1 ∷ aClass 0 0 2 ∷ aClass 0 0 1 ∷ [])
     (aRow 0 Outgoing 0 0 1 ∷ aRow 1 Outgoing 0 0 1 ∷ aRow 1 Incoming 0 0 1 ∷ aRow 2 Incoming 0 0 1 ∷ []) ls (0 ∷ 1 ∷ 1 ∷ 2 ∷ [])
 
+-- the summary of `three`, where hooks are told as t, by their class and by the hoist's row
+unfoldable pub threeAs : ℕ → List ℕ
+threeAs t =
+    proposed 2 (aClass 1 0 1 ∷ aClass 6 1 t ∷ []) (aRow 0 Outgoing 0 1 t ∷ aRow 1 Incoming 0 0 1 ∷ []) (aLink 0 0 1 ∷ []) (0 ∷ 1 ∷ 1 ∷ 1 ∷ [])
+
 -- the summary of `fifteen`, where its outgoing row says t; and one that puts items 0 and 2 into one class
 unfoldable pub fifteenAs : ℕ → List ℕ
 fifteenAs t =
