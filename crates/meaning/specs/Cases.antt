@@ -24,6 +24,7 @@ pub record Case : Type 0 where
   pub got : Answer
   pub want : Answer
 
+-- a case of a sentence that has no number P
 unfoldable pub so : Answer → Answer → Case
 so a b = record { P = 0; got = a; want = b }
 
@@ -33,9 +34,9 @@ bytes (refused k) = []
 bytes (said t) = []
 bytes (wrote p) = p
 
--- how many classes a summary at level 1 has; and the count that its class k states
-unfoldable pub split : ℕ → List ℕ → Answer
-split µ b = let s = bytes (condense 1 µ 1 b 9999) in wrote (num2 s 6 ∷ [])
+-- how many classes and groups a summary has; and, at level 1, the count that its class k states
+unfoldable pub counts : ℕ → ℕ → List ℕ → Answer
+counts i µ b = let s = bytes (condense i µ 1 b 9999) in wrote (num2 s 6 ∷ num2 s 8 ∷ [])
 
 unfoldable pub tallied : ℕ → List ℕ → ℕ → Answer
 tallied ν b k = let s = bytes (condense 1 1 ν b 9999) in wrote (num2 s (24 + 8 * k + 6) ∷ [])
@@ -48,12 +49,12 @@ unfoldable pub read : List ℕ → Answer
 read s = askSummary s truth 0
 
 -- the number that a caller in another language is handed, its sign first: 1 for minus
-unfoldable pub signed : ℤ → Answer
-signed (pos k) = wrote (0 ∷ k ∷ [])
-signed (negsuc k) = wrote (1 ∷ (k + 1) ∷ [])
+unfoldable pub signAndSize : ℤ → Answer
+signAndSize (pos k) = wrote (0 ∷ k ∷ [])
+signAndSize (negsuc k) = wrote (1 ∷ (k + 1) ∷ [])
 
 unfoldable pub handed : Answer → Answer
-handed a = signed (code (returned a))
+handed a = signAndSize (code (returned a))
 
 -- ---- the cases
 
@@ -264,8 +265,8 @@ wellFormedness =
 unfoldable pub condensing : List Case
 condensing =
     -- two hooks and three are both more than one, and with µ = 2 no longer the same
-    so (split 1 uneven) (wrote (3 ∷ [])) ∷
-    so (split 2 uneven) (wrote (4 ∷ [])) ∷
+    so (counts 1 1 uneven) (wrote (3 ∷ 2 ∷ [])) ∷
+    so (counts 1 2 uneven) (wrote (4 ∷ 2 ∷ [])) ∷
     -- "item count capped at ν": three hooks
     so (tallied 1 three 1) (wrote (2 ∷ [])) ∷
     so (tallied 2 three 1) (wrote (3 ∷ [])) ∷

@@ -25,7 +25,7 @@ use Rattle.meaning.specs.Answers.{Answer, refused, said, wrote, condense
 use Rattle.meaning.specs.Figures as Figures
 use Rattle.meaning.specs.Figures.{A, chain, three, pair, empty, S1, none, literal, out, incoming, truth}
 use Rattle.meaning.specs.Cases as Cases
-use Rattle.meaning.specs.Cases.{Case, bytes, registers, questions, holding, reaching, wellFormedness, condensing, checking, orders, lent}
+use Rattle.meaning.specs.Cases.{Case, bytes, counts, registers, questions, holding, reaching, wellFormedness, condensing, checking, orders, lent}
 
 -- ---- answers
 
@@ -46,10 +46,6 @@ equal (said t) (wrote q) = false
 equal (wrote p) (refused k) = false
 equal (wrote p) (said t) = false
 equal (wrote p) (wrote q) = same p q
-
--- how many classes and groups a summary at level i has, for µ = 1
-counts : ℕ → List ℕ → Answer
-counts i b = let s = bytes (condense i 1 1 b 9999) in wrote (num2 s 6 ∷ num2 s 8 ∷ [])
 
 -- a question at item 0 of a summary at level 1; and row j of that summary
 asked : ℕ → List ℕ → List ℕ → Answer
@@ -108,8 +104,8 @@ numbered =
     record { P = 7; got = askRegister A (literal 32) 0; want = said false } ∷
     record { P = 7; got = askRegister A (literal 224) 0; want = said true } ∷
     -- P8: "level 1 has 3 classes and 1 group, level 2 has 4 and 3"
-    record { P = 8; got = counts 1 chain; want = wrote (3 ∷ 1 ∷ []) } ∷
-    record { P = 8; got = counts 2 chain; want = wrote (4 ∷ 3 ∷ []) } ∷
+    record { P = 8; got = counts 1 1 chain; want = wrote (3 ∷ 1 ∷ []) } ∷
+    record { P = 8; got = counts 2 1 chain; want = wrote (4 ∷ 3 ∷ []) } ∷
     -- P9: "the hoist's row says 2, and 'at least 2 out by 0, true' holds at it; µ = 2: 3"
     record { P = 9; got = row 1 three 0; want = wrote (0 ∷ 0 ∷ 1 ∷ 2 ∷ []) } ∷
     record { P = 9; got = asked 1 three (out 2 ++ truth); want = said true } ∷
@@ -132,8 +128,8 @@ passes (c ∷ cs) = equal (c .got) (c .want) && passes cs
 
 -- every case of the table is answered as document 01 says: computed with the definitions of each page, which are named here
 pub examples : T (passes table)
-unfolding passes table numbered same equal counts asked row
-    Cases.so Cases.bytes Cases.split Cases.tallied Cases.judged Cases.read Cases.signed Cases.handed Cases.registers Cases.questions Cases.holding
+unfolding passes table numbered same equal asked row
+    Cases.so Cases.bytes Cases.counts Cases.tallied Cases.judged Cases.read Cases.signAndSize Cases.handed Cases.registers Cases.questions Cases.holding
     Cases.reaching Cases.wellFormedness Cases.condensing Cases.checking Cases.orders Cases.lent
     Figures.A Figures.chain Figures.three Figures.pair Figures.empty Figures.marked Figures.aLink Figures.drawn Figures.crossed Figures.byTarget
     Figures.doubled Figures.knot Figures.fifteen Figures.uneven Figures.S1 Figures.none Figures.aClass Figures.aRow Figures.picture

@@ -60,7 +60,8 @@ fn end(cursor: Cursor, page: &mut [u8], told: Told) -> usize {
     if cursor.at == cursor.end {
         return told.page;
     }
-    bytes::put_all(page, told.page, b"stopped\n")
+    let at = page::room(page, told.page);
+    bytes::put_all(page, at, b"stopped\n")
 }
 
 // What is kept after the command.
