@@ -73,7 +73,7 @@ fn next_level(lower: &[u16], upper: &[u16], n: usize, j: usize, i: usize) -> usi
 }
 
 // "The classes of a summary are those of level i; its groups are those of level i − 1": how many there are of each.
-#[derive(Drop)]
+#[derive(Clone, Copy)]
 pub struct Counts {
     pub groups: usize,
     pub classes: usize,

@@ -14,7 +14,7 @@ use names::{Class, Group};
 use question::{Asked, Filled, Spanned};
 
 // A count of neighbours.
-#[derive(Drop)]
+#[derive(Clone, Copy)]
 enum Counted {
     Sum(u32),
     Refused(Refusal),

@@ -19,7 +19,7 @@ const MOST_STEPS: u16 = 4096;
 
 // Whether a question holds where it was asked, as far as the steps go. Out of steps is no refusal: nothing is said, and who asked asks at all
 // items at once.
-#[derive(Drop)]
+#[derive(Clone, Copy)]
 pub enum Descended {
     Said(bool),
     OutOfSteps,
@@ -27,7 +27,7 @@ pub enum Descended {
 }
 
 // Whether some entry asks for incoming neighbours.
-#[derive(Drop)]
+#[derive(Clone, Copy)]
 enum Incoming {
     Wanted(bool),
     Refused(Refusal),

@@ -12,7 +12,7 @@ ghost use Rattle.entry.specs.Entries.{kind_of, entry_at};
 use meaning::{Direction, Kind};
 
 // "An entry is read as one of six kinds with its parameters, or the question is refused."
-#[derive(Drop)]
+#[derive(Clone, Copy)]
 pub enum Reading {
     Entry(Kind),
     Malformed,

@@ -4,15 +4,15 @@
 ghost use Rattle.std.specs.Prelude.{◌≡◌};
 
 // An item of a register: a node of the source.
-#[derive(Drop)]
+#[derive(Clone, Copy)]
 pub struct Item(pub u16);
 
 // A class of a summary: a shape node.
-#[derive(Drop)]
+#[derive(Clone, Copy)]
 pub struct Class(pub u16);
 
 // A group of a summary: a set of shape nodes.
-#[derive(Drop)]
+#[derive(Clone, Copy)]
 pub struct Group(pub u16);
 
 impl Item {

@@ -11,7 +11,7 @@ use meaning::{Kind, Refusal};
 const MOST_ENTRIES: usize = 64;
 
 // The depth and the greatest threshold of the tree that stands at an entry, and the entry after it.
-#[derive(Drop)]
+#[derive(Clone, Copy)]
 pub enum Spanned {
     Tree {
         depth: usize,
@@ -22,21 +22,21 @@ pub enum Spanned {
 }
 
 // The depth and the greatest threshold of a well-formed question.
-#[derive(Drop)]
+#[derive(Clone, Copy)]
 pub enum Judged {
     Accepted { depth: usize, threshold: usize },
     Refused(Refusal),
 }
 
 // Whether a question holds where it was asked.
-#[derive(Drop)]
+#[derive(Clone, Copy)]
 pub enum Asked {
     Said(bool),
     Refused(Refusal),
 }
 
 // Whether a question was answered everywhere.
-#[derive(Drop)]
+#[derive(Clone, Copy)]
 pub enum Filled {
     Done,
     Refused(Refusal),

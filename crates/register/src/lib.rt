@@ -15,7 +15,7 @@ const MOST_ITEMS: usize = 1024;
 const MOST_LINKS: usize = 2048;
 
 // The register's item count and link count, or the first thing wrong with it.
-#[derive(Drop)]
+#[derive(Clone, Copy)]
 pub enum Judged {
     Accepted { items: usize, links: usize },
     Refused(Refusal),

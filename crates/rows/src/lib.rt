@@ -22,7 +22,7 @@ fn key_or(s: &[u64], k: usize, p: usize, stop: u64) -> u64
 }
 
 // Equal keys one after the other: where they end, and how many they are, capped.
-#[derive(Drop)]
+#[derive(Clone, Copy)]
 struct Run {
     end: usize,
     count: Capped,

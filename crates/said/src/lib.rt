@@ -10,7 +10,7 @@ ghost use Rattle.said.specs.Written.{Short};
 use meaning::Refusal;
 
 // Yes, no, or the refusal.
-#[derive(Drop)]
+#[derive(Clone, Copy)]
 pub enum Said {
     Yes,
     No,
@@ -18,7 +18,7 @@ pub enum Said {
 }
 
 // The length written, or the refusal.
-#[derive(Drop)]
+#[derive(Clone, Copy)]
 pub enum Wrote {
     Length(usize),
     Refused(Refusal),

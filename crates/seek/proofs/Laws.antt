@@ -2,7 +2,7 @@
 -- lists are one.
 -- Leans on Count's laws.
 use mathlib.Core.Path.{◌≡◌, refl, sym, ap, ◌∙◌}
-use mathlib.Core.Bool.{Bool, true, false, ◌&&◌, ◌||◌, or_true, or-false}
+use mathlib.Core.Bool.{Bool, true, false, ◌&&◌, ◌||◌, or-true, or-false}
 use mathlib.Core.Logic.{⊎_elim}
 use mathlib.Core.List.{List, [], ◌∷◌}
 use Prim.Native.Nat.{ℕ, ◌+◌, ◌/◌, ◌≤◌, ◌<◌}
@@ -211,7 +211,7 @@ module _ (keys : List ℕ) (r v at : ℕ) (marked : List Bool) (h : r ≤ length
     sym (key_in at l e),
     λ i k.
         by_eq i at
-        (λ q. rw (q, get_or-set_same marked at true false (omega arith), eq-eqb (get_or keys at 0) v e, or_true))
+        (λ q. rw (q, get_or-set_same marked at true false (omega arith), eq-eqb (get_or keys at 0) v e, or-true))
         (λ q. get_or-set_other marked at i true false q ∙ rw (ne_eqb (get_or keys i 0) v (λ f. apart i at k l q (f ∙ sym e)), or-false (get_or marked i false))),
   )
 

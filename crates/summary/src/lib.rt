@@ -52,7 +52,7 @@ pub fn file(
 }
 
 // What the header says besides the offsets.
-#[derive(Drop)]
+#[derive(Clone, Copy)]
 pub struct Counts {
     pub classes: u16,
     pub groups: u16,

@@ -105,7 +105,7 @@ pub fn answer(what: u8, files: &[u8], page: &mut [u8], kept: Kept, told: Told) -
 }
 
 // What a call wrote into a lent buffer, and the hash of the buffer after it.
-#[derive(Drop)]
+#[derive(Clone, Copy)]
 struct Lent {
     wrote: Wrote,
     hash: u64,

@@ -4,14 +4,14 @@ ghost use Rattle.std.specs.Prelude.{◌<◌};
 use crate::bytes;
 
 // Which of the four, and how many bytes it has.
-#[derive(Drop)]
+#[derive(Clone, Copy)]
 pub struct File {
     pub slot: u8,
     pub len: u16,
 }
 
 // From the place on so many bytes are taken out, and so many stand there instead.
-#[derive(Drop)]
+#[derive(Clone, Copy)]
 pub struct Change {
     pub place: u16,
     pub out: u16,

@@ -8,7 +8,7 @@ const LONGEST: usize = 65542;
 
 // The piece's first `end` bytes were read, and those before `at` are done with. The command that stands there has `long` bytes; 0 where there
 // is none. `last`: the input ends with this piece.
-#[derive(Drop)]
+#[derive(Clone, Copy)]
 pub struct Cursor {
     pub at: usize,
     pub end: usize,

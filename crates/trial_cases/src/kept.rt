@@ -1,7 +1,7 @@
 // What is kept between commands beside the bytes of the files: how long each is, the item number, level and caps, the room.
 use crate::files::File;
 
-#[derive(Drop)]
+#[derive(Clone, Copy)]
 pub struct Kept {
     pub register: File,
     pub other: File,

@@ -5,7 +5,7 @@ use crate::{bytes, lent, page};
 
 // `page` bytes stand on the page. `said` counts y, n, 6 and others: four numbers of the first, third, fifth .. letters, and four of the second,
 // fourth, ..
-#[derive(Drop)]
+#[derive(Clone, Copy)]
 pub struct Told {
     pub page: usize,
     pub open: bool,

@@ -11,7 +11,7 @@ use meaning::Direction;
 use names::{Class, Group};
 
 // The rows from `low` up to `high`.
-#[derive(Drop)]
+#[derive(Clone, Copy)]
 pub struct Rows {
     pub low: usize,
     pub high: usize,
