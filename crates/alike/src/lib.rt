@@ -1,5 +1,7 @@
 // The class lists of a register, level by level. A step reads the finished list of one level and writes the list of the next to another
 // array: the rows of the items, then numbers by signature. Leans on marked for level 0, on surround for the rows, on signature.
+#![tactic(auto)]
+
 ghost use Rattle.std.specs.Prelude.{◌≡◌, true, ◌++◌, ◌+◌, ◌*◌, ◌<◌, ◌≤◌, length, drop, take};
 ghost use Rattle.meaning.specs.Count.{tab};
 ghost use Rattle.meaning.specs.Level.{number, alike_next, class_list, class_count};

@@ -1,5 +1,7 @@
 // The class records of a summary: "Class, eight bytes: marks (four), group, item count capped at ν." The items of each class are counted
 // first; then the items are gone through in order, and the first of a class gives it its record. Leans on capped for the counts.
+#![tactic(auto)]
+
 ghost use Rattle.std.specs.Prelude.{◌≡◌, ◌+◌, ◌*◌, ◌<◌, length, take};
 ghost use Rattle.meaning.specs.Register.{items, marks_of};
 ghost use Rattle.meaning.specs.RegisterFile.{register_in, fault};

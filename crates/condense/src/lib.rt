@@ -1,5 +1,7 @@
 // A register condensed: its classes level by level, then the five parts of the summary, then the file. Leans on alike for the classes,
 // on classes, filed and edges for the parts, on summary for the file.
+#![tactic(auto)]
+
 ghost use Rattle.std.specs.Prelude.{◌≤◌, length, take};
 ghost use Rattle.meaning.specs.Condense.{summary_by, summary_of};
 ghost use Rattle.meaning.specs.RegisterFile.{register_in};

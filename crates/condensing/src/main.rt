@@ -1,5 +1,7 @@
 // The condensing program of document 01's Examples: it reads i, µ, ν as two-byte numbers and then the register from standard input, and
 // prints the summary's listing, or the one line `refused` and the number. Leans on hestovane's condense; the listing is read back from the file.
+#![tactic(auto)]
+
 use meaning::Refusal;
 use said::Wrote;
 

@@ -1,6 +1,8 @@
 // Whether a question holds at a class of a summary: "whether an entry holds asks for a count of neighbours, and that count asks whether the
 // operand holds". Leans on entry and question for what is asked, on reader for the file's numbers, on window for a class's rows and a group's
 // lowest class, and on memo for what was said.
+#![tactic(auto)]
+
 ghost use Rattle.std.specs.Prelude.{◌≡◌, true, cond, ◌+◌, ◌≤◌, ◌<◌, length};
 ghost use Rattle.meaning.specs.Summary.{lowest_class};
 ghost use Rattle.meaning.specs.SummaryFile.{summary_in, well_formed_file};

@@ -1,5 +1,7 @@
 // Items counted and marks compared: "each item's marks equal its class's, each class's stated count equals its number of items capped at
 // ν". Leans on reader and register for the two files, on capped for a count up to a cap.
+#![tactic(auto)]
+
 ghost use Rattle.std.specs.Prelude.{◌≡◌, ℕ, ◌≤◌, ◌<◌, eqb, length, get_or};
 ghost use Rattle.meaning.specs.Count.{tally, all};
 ghost use Rattle.meaning.specs.Cap.{cap};

@@ -1,5 +1,7 @@
 // A question asked at one item of a register, from the item downwards: an operand is asked only where the answer hangs on it, and once an
 // item. Leans on entry and question for what is asked, on nearby for an item's links and on memo for what was said before.
+#![tactic(auto)]
+
 ghost use Rattle.std.specs.Prelude.{◌≡◌, ◌+◌, ◌≤◌, ◌<◌, cond, length};
 ghost use Rattle.meaning.specs.Question as meant;
 ghost use Rattle.meaning.specs.RegisterFile.{register_in};

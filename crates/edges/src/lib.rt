@@ -1,6 +1,8 @@
 // The class links of a summary: "source class, label, target class; present exactly when some member of the first has such a link to
 // some member of the second". One key for each link of the register, the keys in order, each different one written: linear in the
 // links. Leans on radix for the order and on register for the links.
+#![tactic(auto)]
+
 ghost use Rattle.std.specs.Prelude.{◌≡◌, ◌++◌, ◌+◌, ◌*◌, ◌≤◌, ◌<◌, length, drop, take};
 ghost use Rattle.std.proofs.lemmas.List.Edits.{sets};
 ghost use Rattle.meaning.specs.Count.{tab, Every};

@@ -1,5 +1,7 @@
 // An entry of a question: four bytes read as one of six kinds, or malformed; and the literal, asked of an item's marks. Leans on
 // meaning for the kinds and the table of entries.
+#![tactic(auto)]
+
 ghost use Rattle.std.specs.Prelude.{◌≡◌, ◌≤◌, ◌-◌, nat_abs, eqb};
 ghost use Rattle.meaning.specs.WellFormed.{within};
 ghost use Rattle.meaning.specs.Question.{bit};

@@ -1,5 +1,7 @@
 // One class, one row and the map of a summary held against what its header says. Leans on reader for the file's numbers and on range for
 // the counts, which are 1 to the cap and one more.
+#![tactic(auto)]
+
 ghost use Rattle.std.specs.Prelude.{◌≡◌, ◌+◌, ◌*◌, ◌≤◌, ◌<◌, ltb, length};
 ghost use Rattle.meaning.specs.Count.{each};
 ghost use Rattle.meaning.specs.Summary.{class_of};

@@ -1,5 +1,7 @@
 // The header of a summary judged: offsets and length, and the four sizes. Leans on reader for the file's numbers, on summary for the sizes
 // of its records.
+#![tactic(auto)]
+
 ghost use Rattle.std.specs.Prelude.{◌≡◌, true};
 ghost use Rattle.meaning.specs.WellFormed.{sizes};
 ghost use Rattle.meaning.specs.SummaryFile as file;

@@ -1,5 +1,7 @@
 // "the class links are exactly the images of the links": the keys of both, and whether they are the same numbers. Leans on reader and
 // register for the two files, on seek for keys in order.
+#![tactic(auto)]
+
 ghost use Rattle.std.specs.Prelude.{◌≡◌, true, ◌&&◌, ◌++◌, ◌+◌, ◌*◌, ◌≤◌, length, drop};
 ghost use Rattle.meaning.specs.Count.{tab, each};
 ghost use Rattle.meaning.specs.Register.{link_of};

@@ -1,6 +1,8 @@
 // A question asked of a register: from the item downwards, where few items have to be asked, and else of all items at once. Then, from the
 // last entry to the first, it is kept for every entry and item whether the entry holds there, so that a question costs no more than about
 // n + m steps an entry. Leans on descent for the first and on table for the second.
+#![tactic(auto)]
+
 ghost use Rattle.std.specs.Prelude.{◌≡◌, ◌+◌, ◌/◌, ◌≤◌, ◌<◌, leb, nat_abs, length};
 ghost use Rattle.std.proofs.Math.Option.{some};
 ghost use Rattle.meaning.specs.Register.{items, marks_of, neighbours};

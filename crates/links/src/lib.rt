@@ -1,5 +1,7 @@
 // "Source item, label, target item, strictly ascending in that order of fields": links of six bytes, one after another, judged
 // where they stand. The same records are a register's links and a summary's class links. Leans on wire for the bytes.
+#![tactic(auto)]
+
 ghost use Rattle.std.specs.Prelude.{◌≡◌, ◌+◌, ◌*◌, ◌/◌, ◌%◌, ◌≤◌, ◌<◌, length};
 ghost use Rattle.meaning.specs.Count.{tab};
 ghost use Rattle.meaning.specs.RegisterFile.{link_at};

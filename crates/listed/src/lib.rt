@@ -1,5 +1,7 @@
 // The items of a summary whose class passes, ascending and each once: "A list is two bytes an item". A class is asked once and not once an
 // item, so the answers come by class. Leans on reader for the map and on wire for the bytes.
+#![tactic(auto)]
+
 ghost use Rattle.std.specs.Prelude.{◌≡◌, true, false, cond, [], ◌∷◌, ◌++◌, ◌+◌, ◌≤◌, ◌<◌, length, get_or, take};
 ghost use Rattle.meaning.specs.Count.{those};
 ghost use Rattle.meaning.specs.Summary.{class_at};

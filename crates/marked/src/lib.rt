@@ -1,5 +1,7 @@
 // Level 0: items numbered "in order of their lowest item", by their marks, in about linear time. Each item's marks and number go into one
 // word, and the words are sorted: the first of a run is the lowest item with those marks. Leans on register for the marks, on radix.
+#![tactic(auto)]
+
 ghost use Rattle.std.specs.Prelude.{◌≡◌, ◌++◌, ℕ, ◌+◌, ◌*◌, ◌<◌, ◌≤◌, length, drop, get_or};
 ghost use Rattle.meaning.specs.Count.{tally, tab};
 ghost use Rattle.meaning.specs.Register.{marks_of};

@@ -1,5 +1,7 @@
 // Rows and class links held against one another: each class link asks for two rows, and the rows asked for have to be the rows that stand.
 // Leans on reader for the file's numbers and on seek for keys in order.
+#![tactic(auto)]
+
 ghost use Rattle.std.specs.Prelude.{◌≡◌, true, ◌+◌, ◌*◌, ◌≤◌, ◌<◌, length};
 ghost use Rattle.meaning.specs.Summary.{class_of};
 ghost use Rattle.meaning.specs.WellFormed.{numbers, rows_match as rows_match_word};

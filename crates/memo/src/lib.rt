@@ -1,5 +1,7 @@
 // What was found of an entry of a question at a place where it is asked (an item of a register, a group of a summary), and how it is kept:
 // once for each entry and place, so that links that lead to one place from many sides cost no more. Leans on question for the trees.
+#![tactic(auto)]
+
 ghost use Rattle.std.specs.Prelude.{◌≡◌, ◌<◌, get_or, set};
 ghost use Rattle.memo.specs.Kept.{tell, slot};
 ghost use Rattle.memo.specs.Kept as kept;

@@ -1,6 +1,8 @@
 // "Item, class and group numbers are three separate counts, as in source document 000, where nodes, shape nodes and groups differ;
 // none is ever compared with or stored as another." A number is wrapped where it is read and unwrapped where it is an index or
 // is written; the one way from one kind to another is `Class::as_group`.
+#![tactic(auto)]
+
 ghost use Rattle.std.specs.Prelude.{◌≡◌};
 
 // An item of a register: a node of the source.

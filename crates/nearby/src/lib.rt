@@ -1,5 +1,7 @@
 // The links of one item of an accepted register, one way, found one after another from the last to the first: by places kept in a list,
 // or, where no list was made, by search. What is used depends on the list's length alone. Leans on register for the links.
+#![tactic(auto)]
+
 ghost use Rattle.std.specs.Prelude.{◌≡◌, ℕ, ◌-◌, ◌≤◌, ◌<◌, length, get_or};
 ghost use Rattle.meaning.specs.Register.{link_of, near};
 ghost use Rattle.meaning.specs.declared.Direction.TheVariants.{Outgoing, Incoming};

@@ -1,5 +1,7 @@
 // The check of a proposed summary, in document 01's order: item counts, marks, class counts, class links, rows. "Any grouping and
 // numbering may be proposed, and the level field is not judged." Leans on counted, images and rowwise for its parts.
+#![tactic(auto)]
+
 ghost use Rattle.std.specs.Prelude.{◌≡◌, true, length};
 ghost use Rattle.meaning.specs.Check.{fits};
 ghost use Rattle.meaning.specs.RegisterFile.{register_in};

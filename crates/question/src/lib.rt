@@ -1,5 +1,7 @@
 // A question: the tree that stands at an entry, and the whole judged, with number 5 where it is malformed. Leans on entry for
 // what is read of four bytes, and on meaning for the kinds and the refusals.
+#![tactic(auto)]
+
 ghost use Rattle.std.specs.Prelude.{◌≡◌, max};
 ghost use Rattle.question.specs.Read.{Spans, Shallow, verdict, told};
 ghost use Rattle.question.specs.Read as read;

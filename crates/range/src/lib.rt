@@ -1,4 +1,6 @@
 // "Level i is 1 to 4, neighbour cap µ is 1 to 7, class cap ν is 1 to 15": said here for condensing (4) and for a summary's header (6).
+#![tactic(auto)]
+
 ghost use Rattle.std.specs.Prelude.{◌≡◌};
 ghost use Rattle.meaning.specs.WellFormed as meant;
 

@@ -1,5 +1,7 @@
 // "7: question deeper than i, or a threshold above µ + 1": whether a question is within what the summary can answer. Said here and nowhere
 // else; it comes before 8 and 9.
+#![tactic(auto)]
+
 ghost use Rattle.std.specs.Prelude.{◌≡◌, true, ◌||◌, ◌+◌, ltb};
 ghost use Rattle.meaning.specs.SummaryFile.{summary_in, well_formed_file};
 

@@ -1,5 +1,7 @@
 // A summary file whose offsets and length are right, read through accessors that speak of its picture and hand out a Class, a Group or
 // an Item where the file has such a number. Each part is found by its offset in the header. Leans on wire for the bytes.
+#![tactic(auto)]
+
 ghost use Rattle.std.specs.Prelude.{◌≡◌, true, ◌+◌, ◌≤◌, ◌<◌, length};
 ghost use Rattle.meaning.specs.Summary.{class_of as class_of_word, row_of, class_at};
 ghost use Rattle.meaning.specs.WellFormed.{way};

@@ -1,5 +1,7 @@
 // The register file: judged, with document 01's numbers 1, 2 and 3 in their order, and read through accessors that speak of its
 // picture and hand out an Item where the file has an item number. Leans on wire for the bytes and on links for their order.
+#![tactic(auto)]
+
 ghost use Rattle.std.specs.Prelude.{◌≡◌, ◌+◌, ◌*◌, ◌≤◌, ◌<◌, ◌&&◌, leb, length};
 ghost use Rattle.meaning.specs.Register.{items, marks_of, link_of, near as near_end, far as far_end};
 ghost use Rattle.meaning.specs.Bytes.{num2};

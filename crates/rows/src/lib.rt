@@ -1,5 +1,7 @@
 // The capped rows of items, from the sorted keys of links, in one walk. A key is an item times 32,768 and the rest: direction times 16
 // plus label, times 1,024, and a group. A row is one word: that rest times 16, and the capped count. Leans on capped.
+#![tactic(auto)]
+
 ghost use Rattle.std.specs.Prelude.{◌≡◌, ◌++◌, ℕ, ◌+◌, ◌-◌, ◌*◌, ◌<◌, ◌≤◌, length, drop, get_or};
 ghost use Rattle.meaning.specs.Count.{tab, join};
 ghost use Rattle.meaning.specs.Cap.{cap};

@@ -1,5 +1,7 @@
 // The rows of items held against the rows of their classes, row by row. Leans on reader for the summary, on surround for the rows of items,
 // on seek for keys in order.
+#![tactic(auto)]
+
 ghost use Rattle.std.specs.Prelude.{◌≡◌, true, ◌&&◌, ◌++◌, ◌+◌, ◌≤◌, eqb, length, drop, get_or};
 ghost use Rattle.meaning.specs.Count.{tab, all};
 ghost use Rattle.meaning.specs.declared.Direction.TheVariants.{Outgoing, Incoming};

@@ -1,5 +1,7 @@
 // What a call says: yes or no, or the length written, or the refusal; and the same as one number for C. Leans on meaning for the refusals
 // and the calls' answers.
+#![tactic(auto)]
+
 ghost use Rattle.std.specs.Prelude.{◌≡◌};
 ghost use Rattle.meaning.specs.Refusals.{number_of};
 ghost use Rattle.meaning.specs.Answers.{word, number, code};

@@ -1,6 +1,8 @@
 // Sorted keys searched: where a key stands among them, and whether a list of numbers has the same members. For the latter each number
 // is looked for among the keys of its own class, so that m numbers are held against r keys in few steps each, and no more than about
 // m log r + r in all; 4,096 marks and the starts of 1,024 classes are cleared first. Leans on lists alone.
+#![tactic(auto)]
+
 ghost use Rattle.std.specs.Prelude.{◌≡◌, true, false, ◌||◌, ℕ, ◌≤◌, ◌<◌, eqb, length, take, get_or};
 ghost use Rattle.meaning.specs.Count.{all, any, each, ascends};
 ghost use Rattle.seek.specs.Keys.{same_members as same_members_word, Stands, Parted, key_class, Laid, Marks};

@@ -1,6 +1,8 @@
 // Items numbered "in order of their lowest item" by their group and rows together, the signature, in about linear time. Each item's hash and
 // number go into one word, and the words are sorted; signatures of one hash are compared in full, so that no number rests on the hash.
 // Leans on marked for numbers from lowest items, on radix.
+#![tactic(auto)]
+
 ghost use Rattle.std.specs.Prelude.{◌≡◌, ◌++◌, ℕ, ◌+◌, ◌-◌, ◌*◌, ◌<◌, ◌≤◌, length, drop, get_or};
 ghost use Rattle.meaning.specs.Count.{tab, seek};
 ghost use Rattle.meaning.specs.Level.{first, number, class_count};

@@ -1,5 +1,7 @@
 // The summary file, its writing half. Every field of the file is a two-byte number, or two of them: so a file is a list of numbers in
 // five parts, header, classes, rows, class links, map, and each part is written by one loop. Leans on wire for the loop.
+#![tactic(auto)]
+
 ghost use Rattle.std.specs.Prelude.{◌≡◌, ◌+◌, ◌*◌, ◌≤◌, length};
 ghost use Rattle.meaning.specs.Bytes.{put2, pack};
 ghost use Rattle.meaning.specs.Answers.{into};

@@ -1,5 +1,7 @@
 // The surroundings of items: for every item its neighbours counted by direction, label and class, capped, as rows. Each link is two keys,
 // one a direction; the keys are sorted, and equal ones counted. Leans on register for the links, on radix and rows.
+#![tactic(auto)]
+
 ghost use Rattle.std.specs.Prelude.{◌≡◌, ◌++◌, ◌+◌, ◌*◌, ◌<◌, ◌≤◌, length, drop, take};
 ghost use Rattle.meaning.specs.Count.{tab, join};
 ghost use Rattle.meaning.specs.Register.{link_of};

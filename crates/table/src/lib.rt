@@ -1,5 +1,7 @@
 // Which entry of a question holds at which item: a table of truth values, a row of 1,024 for each of 64 entries, filled from the last
 // entry to the first. A writer of row j reads the rows behind it and leaves them as they are. Leans on register for marks and links.
+#![tactic(auto)]
+
 ghost use Rattle.std.specs.Prelude.{◌≡◌, true, not, ◌+◌, ◌*◌, ◌≤◌, ◌<◌, leb, length, get_or};
 ghost use Rattle.meaning.specs.Register.{leads, link_of};
 ghost use Rattle.meaning.specs.RegisterFile.{register_in};

@@ -1,5 +1,7 @@
 // Carries out the commands of docs/CASES.md that stand on standard input, through the proved calls, and prints what they answer. `stdin`
 // here was written by the second program, and `stdout` is what that one's own code says of the same cases. Leans on trial_cases.
+#![tactic(auto)]
+
 mod calls;
 
 ghost use Rattle.std.specs.Prelude.{◌<◌};

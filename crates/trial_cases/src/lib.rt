@@ -1,5 +1,7 @@
 // What the trial is built with: its input taken command by command, what is kept between commands, the tally of letters, the page that is
 // printed. Nothing here is promised to a user; it is proved safe as everything is.
+#![tactic(auto)]
+
 pub mod bytes;
 pub mod changes;
 pub mod files;

@@ -1,5 +1,7 @@
 // A summary judged: well formed, or 6. Every class, row, class link and map entry is looked at once, and then each class link finds the two
 // rows that it asks for by search. Leans on header, fields and matching for the tests, on links for the order of links.
+#![tactic(auto)]
+
 ghost use Rattle.std.specs.Prelude.{◌≡◌, true, ◌&&◌, length};
 ghost use Rattle.meaning.specs.Count.{each, ascends};
 ghost use Rattle.meaning.specs.WellFormed.{in_range, class_in, row_in, link_in, link_key, row_key as row_key_word, sizes, groups_used, well_formed};

@@ -1,5 +1,7 @@
 // What a question on a summary looks up: the class's own rows in a direction and label, and "the group's lowest-numbered class". Leans on
 // reader for the file's numbers and on seek for the rows.
+#![tactic(auto)]
+
 ghost use Rattle.std.specs.Prelude.{◌≡◌, true, ℕ, ◌<◌, length, get_or};
 ghost use Rattle.meaning.specs.Summary.{lowest_class};
 ghost use Rattle.meaning.specs.WellFormed as meant;

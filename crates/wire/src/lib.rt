@@ -1,5 +1,7 @@
 // Two- and four-byte numbers, "unsigned, most significant byte first", read from slices and written into lent ones.
 // Every file of this library is read and written through these; what a write leaves of a buffer is said by `sets`.
+#![tactic(auto)]
+
 ghost use Rattle.std.specs.Prelude.{◌≡◌, ◌+◌, ◌*◌, ◌≤◌, length, take};
 ghost use Rattle.std.proofs.lemmas.List.Edits.{sets};
 ghost use Rattle.meaning.specs.Bytes.{num2, num4, put2, put4, pack};

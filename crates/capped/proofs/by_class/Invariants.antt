@@ -1,0 +1,15 @@
+-- Each count stands for the items of its class that were passed.
+use mathlib.Core.Path.{◌≡◌}
+use Prim.Native.Nat.{◌-◌, ◌≤◌}
+use native.Mathlib.Omega.{arith}
+use lib.ListN.{length, length-set, length-replicate}
+use Rattle.capped.specs.Stands.{ByClass}
+use Rattle.capped.specs.declared.Capped.{Capped}
+use Rattle.capped.proofs.Laws.{none_counted, one_counted}
+use Rattle.capped.proofs.by_class.Given as goal
+
+abbrev pub invariant-loop-x : goal.invariant-loop-x
+invariant-loop-x l = (l.x ≤ l.n) × (length l.counts ≡ 1024) × ByClass l.counts l.classes l.x l.cap
+
+abbrev pub decreases-loop-x : goal.decreases-loop-x
+decreases-loop-x l = l.n - l.x
