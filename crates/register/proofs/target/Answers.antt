@@ -1,0 +1,10 @@
+-- The target of a link of an accepted register.
+use native.Mathlib.Omega.{arith}
+use Rattle.register.proofs.Laws.{target_is}
+use Rattle.register.proofs.target.Goals as goal
+
+pub field-requires : goal.field-requires
+field-requires c = (c.requires, omega arith)
+
+pub returns : goal.returns
+returns c = target_is _ _ _ c.requires _ c.field.ensures
