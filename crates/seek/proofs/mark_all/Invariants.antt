@@ -1,0 +1,21 @@
+-- Every number passed is a key, and the marks stand at those keys.
+use mathlib.Core.Path.{◌≡◌, refl, sym, ◌∙◌}
+use mathlib.Core.Bool.{true, false≢true}
+use Prim.Native.Nat.{ℕ, ◌-◌, ◌≤◌, ◌<◌}
+use native.Mathlib.Omega.{arith}
+use borrow.Author.Tests.{not-true, not-false}
+use borrow.Author.Count.{below_more}
+use lib.Dec.{eqb}
+use lib.ListN.{length, take, get_or}
+use Rattle.meaning.specs.Count.{any}
+use Rattle.seek.specs.Keys.{Marks}
+use Rattle.seek.proofs.Laws.{marks_none, marks_next, first_yes, first_no}
+use Rattle.seek.proofs.mark_all.Given as goal
+
+abbrev pub invariant-loop-j : goal.invariant-loop-j
+invariant-loop-j l =
+    (l.j ≤ l.m) × (length l.marked ≡ length l.initial.marked) × ((c : ℕ) → c < l.j → any (eqb (get_or l.needed c 0)) (take l.r l.keys) ≡ true) × Marks l.marked l.keys l.r
+    (take l.j l.needed)
+
+abbrev pub decreases-loop-j : goal.decreases-loop-j
+decreases-loop-j l = l.m - l.j
