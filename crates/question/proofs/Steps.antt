@@ -9,7 +9,6 @@ use native.Mathlib.Omega.{arith}
 use native.Mathlib.Numerals.{add-one}
 use lib.IntN.{ℤ}
 use lib.ListN.{length}
-use types.Run.{OneOf}
 use denote.Enum.Declared.{tag_of}
 use Rattle.meaning.specs.Question.{Question, always, literal, negation, both, either, at_least, depth, threshold}
 use Rattle.meaning.specs.declared.Direction.{Direction}
@@ -35,22 +34,6 @@ Leaf k = (k ≡ True) ⊎ ((z : ℤ) × (k ≡ Literal z))
 
 abbrev pub Two : Kind → Type 0
 Two k = (k ≡ And) ⊎ (k ≡ Or)
-
-pub leaf_of : (k : Kind) → OneOf (0 ∷ 1 ∷ []) (tag_of the_type k) → Leaf k
-leaf_of True h = inl refl
-leaf_of (Literal z) h = inr (z, refl)
-leaf_of Not h = ⊎_elim (λ e. absurd (omega arith)) (λ e. absurd (omega arith)) h
-leaf_of And h = ⊎_elim (λ e. absurd (omega arith)) (λ e. absurd (omega arith)) h
-leaf_of Or h = ⊎_elim (λ e. absurd (omega arith)) (λ e. absurd (omega arith)) h
-leaf_of (AtLeast d l n) h = ⊎_elim (λ e. absurd (omega arith)) (λ e. absurd (omega arith)) h
-
-pub two_of : (k : Kind) → OneOf (3 ∷ 4 ∷ []) (tag_of the_type k) → Two k
-two_of And h = inl refl
-two_of Or h = inr refl
-two_of True h = ⊎_elim (λ e. absurd (omega arith)) (λ e. absurd (omega arith)) h
-two_of (Literal z) h = ⊎_elim (λ e. absurd (omega arith)) (λ e. absurd (omega arith)) h
-two_of Not h = ⊎_elim (λ e. absurd (omega arith)) (λ e. absurd (omega arith)) h
-two_of (AtLeast d l n) h = ⊎_elim (λ e. absurd (omega arith)) (λ e. absurd (omega arith)) h
 
 -- ---- a step of the recursion, by the kind of the entry
 

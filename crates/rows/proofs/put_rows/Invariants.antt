@@ -1,0 +1,19 @@
+-- There is a number below which all keys are done (`Done`), at most the present item's first key.
+use mathlib.Core.Path.{◌≡◌, refl, ap}
+use mathlib.Core.List.{◌++◌}
+use Prim.Native.Nat.{ℕ, ◌+◌, ◌-◌, ◌*◌, ◌%◌, ◌≤◌, ◌<◌}
+use native.Mathlib.Omega.{arith}
+use lib.ListN.{length, drop, length-set}
+use Rattle.meaning.specs.Count.{tab}
+use Rattle.order.proofs.Front.{tab_none, tab_more}
+use Rattle.rows.specs.Rows.{start_of}
+use Rattle.rows.proofs.Laws.{Done, done_none, done_row, done_item, done_all, not_past}
+use Rattle.rows.proofs.put_rows.Given as goal
+
+abbrev pub invariant-loop-x : goal.invariant-loop-x
+invariant-loop-x l =
+    (l.x ≤ l.n + 1) × (length l.rows ≡ length l.initial.rows) × (length l.starts ≡ length l.initial.starts) × (l.starts ≡ tab (start_of l.mu l.s l.k) l.x ++ drop l.x l.initial.starts)
+    × ((low : ℕ) × Done l.mu l.s l.k l.n l.x l.p l.j l.initial.rows l.rows low)
+
+abbrev pub decreases-loop-x : goal.decreases-loop-x
+decreases-loop-x l = (l.n + 1 - l.x) + (l.k - l.p)
