@@ -4,11 +4,10 @@ use mathlib.Core.Path.{◌≡◌, refl, sym, ap, subst, ◌∙◌}
 use mathlib.Core.Bool.{Bool, true, false, not, cond, ◌&&◌, ◌||◌}
 use mathlib.Core.Logic.{◌⊎◌, inl, inr, ⊎_elim}
 use mathlib.Core.List.{List, [], ◌∷◌}
-use types.Run.{OneOf}
-use denote.Enum.Declared.{tag_of}
+
 use Rattle.meaning.specs.declared.Kind.{Kind}
 use Rattle.meaning.specs.declared.Kind.TheVariants.{True, Literal, Not, And, Or, AtLeast}
-use Rattle.meaning.specs.contracts.Kind.{the_type}
+
 use mathlib.Core.Option.{some}
 use Prim.Native.Nat.{ℕ, ◌+◌, ◌*◌, ◌≤◌, ◌<◌}
 use native.Mathlib.Omega.{arith}
@@ -27,13 +26,13 @@ use Rattle.question.proofs.Steps.{Two}
 use Rattle.memo.specs.Kept.{any, tell, slot, Remembers}
 
 -- no other kind than "or" is content with one operand
-pub not_any : (k : Kind) → OneOf (0 ∷ 1 ∷ 2 ∷ 3 ∷ 5 ∷ []) (tag_of the_type k) → any k ≡ false
+pub not_any : (k : Kind) → (k ≡ Or → ⊥) → any k ≡ false
 not_any True h = refl
 not_any (Literal z) h = refl
 not_any Not h = refl
 not_any And h = refl
 not_any (AtLeast d l n) h = refl
-not_any Or h = absurd (⊎_elim (λ e. omega arith) (⊎_elim (λ e. omega arith) (⊎_elim (λ e. omega arith) (⊎_elim (λ e. omega arith) (λ e. omega arith)))) h)
+not_any Or h = absurd (h refl)
 
 -- ---- two operands
 

@@ -1,0 +1,16 @@
+-- The front is packed.
+use mathlib.Core.Path.{◌≡◌, refl}
+use mathlib.Core.List.{◌++◌}
+use Prim.Native.Nat.{◌-◌, ◌≤◌}
+use native.Mathlib.Omega.{arith}
+use lib.ListN.{length, get_or, drop, length-set}
+use Rattle.meaning.specs.Count.{tab}
+use Rattle.order.proofs.Front.{tab_none, tab_more}
+use Rattle.marked.specs.Lowest.{pack}
+use Rattle.marked.proofs.put_marks.Given as goal
+
+abbrev pub invariant-loop-x : goal.invariant-loop-x
+invariant-loop-x l = (l.x ≤ l.n) × (length l.out ≡ length l.initial.out) × (l.out ≡ tab (pack (λ y. get_or l.marks y 0)) l.x ++ drop l.x l.initial.out)
+
+abbrev pub decreases-loop-x : goal.decreases-loop-x
+decreases-loop-x l = l.n - l.x

@@ -1,0 +1,35 @@
+-- Each item of the row is written true.
+use mathlib.Core.Path.{refl}
+use mathlib.Core.Bool.{true}
+use Prim.Native.Nat.{◌-◌, ◌≤◌}
+use native.Mathlib.Omega.{arith}
+use Rattle.table.proofs.Laws.{Part, part_none, part_next, part_all}
+use Rattle.table.proofs.put_true.Goals as goal
+
+pub loop-x-init : goal.loop-x-init
+loop-x-init c = (omega arith, part_none _ _ _)
+
+pub overflow_mul-table : goal.overflow_mul-table
+overflow_mul-table c = omega arith
+
+pub overflow_add-table : goal.overflow_add-table
+overflow_add-table c = omega arith
+
+pub bounds-table-j : goal.bounds-table-j
+bounds-table-j c = omega arith
+
+pub overflow_add-x : goal.overflow_add-x
+overflow_add-x c = omega arith
+
+pub loop-x-smaller : goal.loop-x-smaller
+loop-x-smaller c = omega arith
+
+pub loop-x-preserved : goal.loop-x-preserved
+loop-x-preserved c =
+    (omega arith, part_next _ _ _ _ _ c.loop-x.invariant.1 true (omega arith) (omega arith) refl)
+
+pub shape_of-table : goal.shape_of-table
+shape_of-table c = omega arith
+
+pub returns : goal.returns
+returns c = part_all _ _ _ _ _ c.loop-x.invariant.1 _ (omega arith)

@@ -1,0 +1,13 @@
+-- Each item of the row is written true.
+use mathlib.Core.Path.{refl}
+use mathlib.Core.Bool.{true}
+use Prim.Native.Nat.{◌-◌, ◌≤◌}
+use native.Mathlib.Omega.{arith}
+use Rattle.table.proofs.Laws.{Part, part_none, part_next, part_all}
+use Rattle.table.proofs.put_true.Given as goal
+
+abbrev pub invariant-loop-x : goal.invariant-loop-x
+invariant-loop-x l = (l.x ≤ l.n) × Part l.initial.table l.table l.j (λ y. true) l.x
+
+abbrev pub decreases-loop-x : goal.decreases-loop-x
+decreases-loop-x l = l.n - l.x
