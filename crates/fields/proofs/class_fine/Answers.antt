@@ -20,7 +20,7 @@ pub class_cap-requires : goal.class_cap-requires
 class_cap-requires c = c.requires.0.exact_is
 
 pub overflow_add-class_cap : goal.overflow_add-class_cap
-overflow_add-class_cap c = omega (arith, c.class_cap.ensures, c.requires.0.Class-Low)
+overflow_add-class_cap c = omega (arith, c.class_cap.ensures, c.requires.0.class_low)
 
 pub returns : goal.returns
 returns c =

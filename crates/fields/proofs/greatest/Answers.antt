@@ -7,6 +7,7 @@ use Rattle.meaning.specs.Bytes.{num2}
 use Rattle.fields.specs.Places.{most}
 use Rattle.fields.proofs.Most.{most_none, most_up, most_stays}
 use Rattle.fields.proofs.greatest.Goals as goal
+use Rattle.fields.proofs.greatest.Goals.{then-top-v, else-top-v}
 
 pub loop-i-init : goal.loop-i-init
 loop-i-init c = (omega arith, most_none _)
@@ -18,7 +19,7 @@ pub loop-i-preserved : goal.loop-i-preserved
 loop-i-preserved c =
     let l = c.loop-i in
     let v = c.two-v in
-    (omega arith, ⊎_elim (λ w. w.1 ∙ most_up _ _ _ _ l.invariant.1 v.ensures w.0.taken) (λ w. w.1 ∙ most_stays _ _ _ _ l.invariant.1 v.ensures w.0.left) c.if-top-v.branch)
+    (omega arith, elim c.if-top-v.branch [ then-top-v w ↦ w.top-is ∙ most_up _ _ _ _ l.invariant.1 v.ensures w.if-top-v.true | else-top-v w ↦ w.top-is ∙ most_stays _ _ _ _ l.invariant.1 v.ensures w.if-top-v.false ])
 
 pub returns : goal.returns
 returns c =

@@ -9,6 +9,7 @@ use Rattle.marked.specs.Lowest.{item}
 use Rattle.marked.specs.Lowest.{same_marks}
 use Rattle.marked.proofs.Laws.{Run, run_none, run_next, store_next, all_met, item_small, led_marks}
 use Rattle.marked.proofs.find_marked.Goals as goal
+use Rattle.marked.proofs.find_marked.Goals.{then-s-p, else-s-p}
 
 pub loop-p-init : goal.loop-p-init
 loop-p-init c = (omega arith, refl, run_none c.args.s.now, λ q h. absurd (omega arith))
@@ -38,7 +39,7 @@ offset_bounds-s-r-in-loop-p c =
     let k : l.p < a.n = omega arith in
     let t =
     run_next a.s.now a.n l.r l.p c.if-s-p.r l.invariant.2 k (λ q m. c.requires.2.up q l.p m k)
-    (⊎_elim (λ w. inl (w.0.taken, w.1)) (λ w. inr (w.0.left, w.1)) c.if-s-p.branch) in
+    (elim c.if-s-p.branch [ then-s-p w ↦ inl (w.if-s-p.true, w.r-is) | else-s-p w ↦ inr (w.if-s-p.false, w.r-is) ]) in
     omega (arith, t.1)
 
 pub bounds-s-r-in-loop-p : goal.bounds-s-r-in-loop-p
@@ -48,7 +49,7 @@ bounds-s-r-in-loop-p c =
     let k : l.p < a.n = omega arith in
     let t =
     run_next a.s.now a.n l.r l.p c.if-s-p.r l.invariant.2 k (λ q m. c.requires.2.up q l.p m k)
-    (⊎_elim (λ w. inl (w.0.taken, w.1)) (λ w. inr (w.0.left, w.1)) c.if-s-p.branch) in
+    (elim c.if-s-p.branch [ then-s-p w ↦ inl (w.if-s-p.true, w.r-is) | else-s-p w ↦ inr (w.if-s-p.false, w.r-is) ]) in
     omega (arith, t.1)
 
 pub overflow_cast-firsts : goal.overflow_cast-firsts
@@ -76,7 +77,7 @@ loop-p-preserved c =
     let k : l.p < a.n = omega arith in
     let t =
     run_next a.s.now a.n l.r l.p c.if-s-p.r l.invariant.2 k (λ q m. c.requires.2.up q l.p m k)
-    (⊎_elim (λ w. inl (w.0.taken, w.1)) (λ w. inr (w.0.left, w.1)) c.if-s-p.branch) in
+    (elim c.if-s-p.branch [ then-s-p w ↦ inl (w.if-s-p.true, w.r-is) | else-s-p w ↦ inr (w.if-s-p.false, w.r-is) ]) in
     let small = item_small (λ x. get_or a.marks.now x 0) a.n a.s.now c.requires.0 c.requires.2 l.p k in (
       omega arith,
       simp length-set l.invariant.1,

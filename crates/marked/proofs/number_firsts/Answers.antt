@@ -9,6 +9,7 @@ use Rattle.meaning.specs.Count.{sum, tally, tab}
 use Rattle.marked.specs.Lowest.{own, number_of}
 use Rattle.marked.proofs.Numbered.{owns_new, owns_old, turn_new, turn_old}
 use Rattle.marked.proofs.number_firsts.Goals as goal
+use Rattle.marked.proofs.number_firsts.Goals.{then-j-i, else-j-i}
 
 pub loop-i-init : goal.loop-i-init
 unfolding sum tab
@@ -58,24 +59,24 @@ loop-i-preserved c =
     let l = c.loop-i in
     let a = c.args in
     let h : l.i < length a.out.now = omega (arith, c.requires) in
-    ⊎_elim
-    (λ w. (
-      omega arith,
-      omega arith,
-      w.2 ∙ ap (λ (k : ℕ). k + 1) l.invariant.2 ∙ sym (owns_new a.firsts.now l.i w.0.taken),
-      ap length w.1 ∙ simp length-set l.invariant.3,
-      w.1 ∙ rw l.invariant.4 (turn_new a.firsts.now l.i a.out.now l.k h w.0.taken l.invariant.2),
-    ))
-    (λ w.
-    let j = get_or a.firsts.now l.i 0 in
-    let lt : j < l.i = omega (arith, w.0.left, c.requires.3.below l.i (omega arith)) in (
-      omega arith,
-      omega arith,
-      w.3 ∙ l.invariant.2 ∙ sym (owns_old a.firsts.now l.i w.0.left),
-      ap length w.2 ∙ simp length-set l.invariant.3,
-      w.2 ∙ rw l.invariant.4 (turn_old a.firsts.now l.i a.out.now j h refl lt (c.requires.3.again l.i (omega arith))),
-    ))
-    c.if-j-i.branch
+    elim c.if-j-i.branch [
+      | then-j-i w ↦ (
+        omega arith,
+        omega arith,
+        w.k-is ∙ ap (λ (k : ℕ). k + 1) l.invariant.2 ∙ sym (owns_new a.firsts.now l.i w.if-j-i.true),
+        ap length w.out-is ∙ simp length-set l.invariant.3,
+        w.out-is ∙ rw l.invariant.4 (turn_new a.firsts.now l.i a.out.now l.k h w.if-j-i.true l.invariant.2),
+      )
+      | else-j-i w ↦
+          let j = get_or a.firsts.now l.i 0 in
+          let lt : j < l.i = omega (arith, w.if-j-i.false, c.requires.3.below l.i (omega arith)) in (
+            omega arith,
+            omega arith,
+            w.k-is ∙ l.invariant.2 ∙ sym (owns_old a.firsts.now l.i w.if-j-i.false),
+            ap length w.out-is ∙ simp length-set l.invariant.3,
+            w.out-is ∙ rw l.invariant.4 (turn_old a.firsts.now l.i a.out.now j h refl lt (c.requires.3.again l.i (omega arith))),
+          )
+    ]
 
 pub shape_of-out : goal.shape_of-out
 shape_of-out c = omega arith

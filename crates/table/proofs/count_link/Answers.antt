@@ -16,8 +16,7 @@ returns-then-not-table-j c =
 
 pub offset_bounds-counts-near : goal.offset_bounds-counts-near
 offset_bounds-counts-near c =
-    let i = c in
-    omega (arith, i.index2.ensures, i.before.near.ensures.1)
+    omega (arith, c.index-near.ensures, c.near.ensures.1)
 
 pub bounds-counts-near : goal.bounds-counts-near
 bounds-counts-near c =
