@@ -14,8 +14,8 @@ use Rattle.listed.proofs.put_items.Given as goal
 
 abbrev pub invariant-loop-x : goal.invariant-loop-x
 invariant-loop-x l =
-    (x ≤ l.n) × (l.r ≡ length (those (λ x. get_or l.answers (class_at (summary_in l.s) x) false) x)) ×
-    (take l.r l.out ≡ those (λ x. get_or l.answers (class_at (summary_in l.s) x) false) x) × (length l.out ≡ length l.initial.out)
+    (l.x ≤ l.n) × (l.r ≡ length (those (λ x. get_or l.answers (class_at (summary_in l.s) x) false) l.x)) ×
+    (take l.r l.out ≡ those (λ x. get_or l.answers (class_at (summary_in l.s) x) false) l.x) × (length l.out ≡ length l.initial.out)
 
 abbrev pub decreases-loop-x : goal.decreases-loop-x
 decreases-loop-x l = l.n - l.x

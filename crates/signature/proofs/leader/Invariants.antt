@@ -1,0 +1,18 @@
+-- The search from q on gives what the search from r on does.
+use mathlib.Core.Path.{◌≡◌, refl, sym, ap, ◌∙◌}
+use mathlib.Core.Bool.{Bool, true, false}
+use Prim.Native.Nat.{ℕ, ◌-◌, ◌≤◌}
+use native.Mathlib.Omega.{arith}
+use Rattle.meaning.specs.Count.{seek}
+use Rattle.marked.specs.Lowest.{item}
+use Rattle.signature.specs.Signature.{alike_sig}
+use Rattle.order.proofs.Front.{seek_found, seek_next, seek_over}
+use Rattle.signature.proofs.leader.Given as goal
+
+abbrev pub invariant-loop-q : goal.invariant-loop-q
+invariant-loop-q l =
+    (l.r ≤ l.q) × (l.q ≤ l.p) × (l.x ≡ item l.s l.p) ×
+    (seek (λ q. alike_sig l.groups l.starts l.rows (item l.s q) (item l.s l.p)) l.q (l.p - l.q) ≡ seek (λ q. alike_sig l.groups l.starts l.rows (item l.s q) (item l.s l.p)) l.r (l.p - l.r))
+
+abbrev pub decreases-loop-q : goal.decreases-loop-q
+decreases-loop-q l = l.p - l.q

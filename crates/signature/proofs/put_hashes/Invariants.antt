@@ -1,0 +1,17 @@
+-- The front is packed.
+use mathlib.Core.Path.{◌≡◌, refl, ap}
+use mathlib.Core.List.{◌++◌}
+use Prim.Native.Nat.{ℕ, ◌+◌, ◌-◌, ◌*◌, ◌≤◌}
+use native.Mathlib.Omega.{arith}
+use lib.ListN.{length, drop, length-set}
+use Rattle.meaning.specs.Count.{tab}
+use Rattle.marked.specs.Lowest.{pack}
+use Rattle.signature.specs.Signature.{hash_sig}
+use Rattle.order.proofs.Front.{tab_none, tab_more}
+use Rattle.signature.proofs.put_hashes.Given as goal
+
+abbrev pub invariant-loop-x : goal.invariant-loop-x
+invariant-loop-x l = (l.x ≤ l.n) × (length l.out ≡ length l.initial.out) × (l.out ≡ tab (pack (hash_sig l.groups l.starts l.rows)) l.x ++ drop l.x l.initial.out)
+
+abbrev pub decreases-loop-x : goal.decreases-loop-x
+decreases-loop-x l = l.n - l.x

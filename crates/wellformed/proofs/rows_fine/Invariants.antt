@@ -1,0 +1,25 @@
+-- The first j rows are in range and ascend, and their keys are kept: `least` is the least key that the next may have.
+use native.Mathlib.Omega.{arith}
+use mathlib.Core.Path.{◌≡◌, refl, sym, ◌∙◌}
+use mathlib.Core.Bool.{true}
+use Prim.Native.Nat.{ℕ, ◌-◌, ◌≤◌, ◌<◌}
+use lib.ListN.{length, get_or, length-set}
+use Rattle.reader.specs.Sized.{HasRow}
+use Rattle.reader.proofs.Laws.{laid}
+use Rattle.fields.proofs.Laws.{row_read, key_read, row_room}
+use borrow.Author.Tests.{not-true, not-false}
+use borrow.Author.Count.{below_more}
+use Rattle.theory.proofs.CountLaws.{past}
+use Rattle.meaning.specs.SummaryFile.{summary_in}
+use Rattle.wellformed.proofs.Loops.{key, row_rises, row_out, row_falls, row_rises_law, rows_all, past_none, past_next, keys_kept, key_set}
+use Rattle.matching.proofs.Laws.{keyed_no}
+use borrow.Author.Rules.{rules}
+use Rattle.wellformed.proofs.rows_fine.Given as goal
+
+abbrev pub invariant-loop-j : goal.invariant-loop-j
+invariant-loop-j l =
+    (l.j ≤ l.r) × (l.least ≡ past (key (summary_in l.s)) l.j) × ((i : ℕ) → i < l.j → row_rises (summary_in l.s) i ≡ true) ×
+    ((i : ℕ) → i < l.j → get_or l.keys i 0 ≡ key (summary_in l.s) i) × (length l.keys ≡ length l.initial.keys)
+
+abbrev pub decreases-loop-j : goal.decreases-loop-j
+decreases-loop-j l = l.r - l.j
