@@ -35,9 +35,6 @@ use Rattle.nearby.proofs.Laws.{count_last, count_own, count_all}
 use Rattle.descent.specs.declared.Descended.{Descended}
 use Rattle.descent.specs.declared.Descended.TheVariants.{Said, OutOfSteps, Refused}
 use Rattle.descent.specs.Around.{reaching, leading, Tells, turned, decides}
-use Rattle.descent.specs.contracts.Descended.{the_type}
-use types.Run.{OneOf}
-use denote.Enum.Declared.{tag_of}
 
 -- ---- what is said, and what is not
 
@@ -55,18 +52,18 @@ module _ (q : List ℕ) (i : ℕ) (so : Question → Bool) where
   tells_tired t k p b e = absurd (let z : ◌≡◌ {A = ℕ} 0 1 = cc in omega arith)
 
   -- what is not said is passed on
-  pub tells_unsaid : (r : Descended) → OneOf (1 ∷ 2 ∷ []) (tag_of the_type r) → Tells q i so r
-  tells_unsaid (Said b) h = absurd (⊎_elim (λ e. omega arith) (λ e. omega arith) h)
+  pub tells_unsaid : (r : Descended) → ((b : Bool) → r ≡ Said b → ⊥) → Tells q i so r
+  tells_unsaid (Said b) h = absurd (h b refl)
   tells_unsaid OutOfSteps h = tells_tired
   tells_unsaid (Refused r) h = tells_refused r
 
-pub turned_unsaid : (r : Descended) → OneOf (1 ∷ 2 ∷ []) (tag_of the_type r) → r ≡ turned r
-turned_unsaid (Said b) h = absurd (⊎_elim (λ e. omega arith) (λ e. omega arith) h)
+pub turned_unsaid : (r : Descended) → ((b : Bool) → r ≡ Said b → ⊥) → r ≡ turned r
+turned_unsaid (Said b) h = absurd (h b refl)
 turned_unsaid OutOfSteps h = refl
 turned_unsaid (Refused r) h = refl
 
-pub decides_unsaid : (k : Kind) (r : Descended) → OneOf (1 ∷ 2 ∷ []) (tag_of the_type r) → true ≡ decides k r
-decides_unsaid k (Said b) h = absurd (⊎_elim (λ e. omega arith) (λ e. omega arith) h)
+pub decides_unsaid : (k : Kind) (r : Descended) → ((b : Bool) → r ≡ Said b → ⊥) → true ≡ decides k r
+decides_unsaid k (Said b) h = absurd (h b refl)
 decides_unsaid k OutOfSteps h = refl
 decides_unsaid k (Refused r) h = refl
 

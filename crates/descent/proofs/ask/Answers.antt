@@ -12,7 +12,7 @@ holds-requires c =
     (record { register = s.0; outs_are = no_outs _ _ (omega arith); ins_are = no_ins _ _ (omega arith) }, remembers_none _ _ 1 (omega arith), s.1)
 
 pub returns-then-depth-lt2 : goal.returns-then-depth-lt2
-returns-then-depth-lt2 c = c.holds.ensures.0
+returns-then-depth-lt2 c = c.holds.ensures.tells
 
 pub returns-in_default : goal.returns-in_default
 returns-in_default c = tells_refused _ _ _ _

@@ -1,0 +1,15 @@
+-- The front is the source's, the rest as it was.
+use native.Mathlib.Omega.{arith}
+use mathlib.Core.Path.{◌≡◌, refl}
+use mathlib.Core.List.{◌++◌}
+use Prim.Native.Nat.{◌-◌, ◌≤◌}
+use lib.ListN.{length, take, drop, length-set}
+use Rattle.order.proofs.Front.{copy_next}
+use borrow.Author.Rules.{rules}
+use Rattle.alike.proofs.copy_classes.Given as goal
+
+abbrev pub invariant-loop-x : goal.invariant-loop-x
+invariant-loop-x l = (l.x ≤ l.n) × (length l.to ≡ length l.initial.to) × (l.to ≡ take l.x l.from ++ drop l.x l.initial.to)
+
+abbrev pub decreases-loop-x : goal.decreases-loop-x
+decreases-loop-x l = l.n - l.x

@@ -1,0 +1,20 @@
+-- The items below x are entered; once all are, the records are the summary's.
+-- the group is the class that the item had at the level before
+use mathlib.Core.Path.{subst, ◌≡◌}
+use mathlib.Core.List.{List}
+use Prim.Native.Nat.{ℕ, ◌-◌, ◌≤◌, ◌<◌}
+use native.Mathlib.Omega.{arith}
+use lib.ListN.{length, take, length-replicate}
+use Rattle.meaning.specs.RegisterFile.{register_in}
+use Rattle.capped.proofs.Laws.{class_number}
+use Rattle.classes.specs.Counted.{Enters}
+use Rattle.classes.proofs.Laws.{Under, none_entered, n_items, class_small, entered_in, sorted_all}
+use borrow.Author.Rules.{rules}
+use Rattle.classes.proofs.records.Given as goal
+
+abbrev pub invariant-loop-x : goal.invariant-loop-x
+invariant-loop-x l =
+    (l.x ≤ l.n) × (length l.out ≡ 4096) × ((k : ℕ) → k < 1024 → Under (register_in l.reg) (take l.n l.groups) (take l.n l.classes) l.nu l.out l.x k)
+
+abbrev pub decreases-loop-x : goal.decreases-loop-x
+decreases-loop-x l = l.n - l.x

@@ -1,0 +1,19 @@
+-- The keys of the links passed, and what was there behind them.
+use mathlib.Core.Path.{◌≡◌, refl}
+use mathlib.Core.List.{◌++◌}
+use Prim.Native.Nat.{◌-◌, ◌≤◌}
+use native.Mathlib.Omega.{arith}
+use lib.ListN.{length, take, drop, length-set}
+use Rattle.meaning.specs.Count.{tab}
+use Rattle.meaning.specs.Register.{link_of}
+use Rattle.meaning.specs.RegisterFile.{register_in}
+use Rattle.order.proofs.Front.{tab_none, tab_more}
+use Rattle.edges.specs.Keys.{key_of}
+use Rattle.edges.proofs.put_keys.Given as goal
+
+abbrev pub invariant-loop-k : goal.invariant-loop-k
+invariant-loop-k l =
+    (l.k ≤ l.m) × (length l.keys ≡ length l.initial.keys) × (l.keys ≡ tab (λ i. key_of (take l.n l.classes) (link_of (register_in l.reg) i)) l.k ++ drop l.k l.initial.keys)
+
+abbrev pub decreases-loop-k : goal.decreases-loop-k
+decreases-loop-k l = l.m - l.k

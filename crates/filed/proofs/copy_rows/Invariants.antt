@@ -1,0 +1,16 @@
+-- The words below j are copied.
+use mathlib.Core.Path.{◌≡◌, ap, ◌∙◌}
+use Prim.Native.Nat.{ℕ, ◌-◌, ◌*◌, ◌≤◌}
+use native.Mathlib.Omega.{arith}
+use lib.ListN.{length}
+use lib.Seq.{sets}
+use Rattle.filed.specs.Copied.{copied}
+use Rattle.filed.proofs.Laws.{copied_none, copied_next}
+use borrow.Author.Rules.{rules}
+use Rattle.filed.proofs.copy_rows.Given as goal
+
+abbrev pub invariant-loop-j : goal.invariant-loop-j
+invariant-loop-j l = (l.j ≤ l.m) × (length l.out ≡ 16384) × (l.out ≡ sets l.initial.out (4 * l.at) (copied l.rows l.class l.from l.j))
+
+abbrev pub decreases-loop-j : goal.decreases-loop-j
+decreases-loop-j l = l.m - l.j

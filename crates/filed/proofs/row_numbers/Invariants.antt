@@ -1,0 +1,15 @@
+-- The items below x are done (`Under`); once all are, the rows are the summary's.
+use mathlib.Core.Path.{◌≡◌, ap, ◌∙◌, subst}
+use mathlib.Core.Logic.{⊎_elim}
+use Prim.Native.Nat.{ℕ, ◌+◌, ◌-◌, ◌≤◌}
+use native.Mathlib.Omega.{arith}
+use lib.ListN.{length, take}
+use Rattle.filed.proofs.Laws.{Under, none_done, classes_long, starts_long, class_small, rise, ends, words_stand, first_turn, other_turn, all_done}
+use borrow.Author.Rules.{rules}
+use Rattle.filed.proofs.row_numbers.Given as goal
+
+abbrev pub invariant-loop-x : goal.invariant-loop-x
+invariant-loop-x l = (l.x ≤ l.n) × (length l.out ≡ 16384) × Under l.n (take l.n l.classes) l.starts l.rows l.initial.out l.out l.x l.seen l.at
+
+abbrev pub decreases-loop-x : goal.decreases-loop-x
+decreases-loop-x l = l.n - l.x

@@ -1,0 +1,21 @@
+-- Every item passed has the rows of its class.
+use mathlib.Core.Path.{◌≡◌, sym, ap, ◌∙◌}
+use mathlib.Core.Bool.{true}
+use Prim.Native.Nat.{ℕ, ◌+◌, ◌-◌, ◌≤◌, ◌<◌}
+use native.Mathlib.Omega.{arith}
+use borrow.Author.Count.{below_more}
+use borrow.Author.Tests.{not-true, not-false}
+use lib.ListN.{get_or}
+use Rattle.meaning.specs.Summary.{class_at}
+use Rattle.meaning.specs.SummaryFile.{summary_in}
+use Rattle.theory.proofs.CountLaws.{all_yes, all_no}
+use Rattle.rowwise.specs.Rows.{class_rows, same_words}
+use Rattle.rowwise.proofs.item_rows_equal.Given as goal
+
+abbrev pub invariant-loop-x : goal.invariant-loop-x
+invariant-loop-x l =
+    (l.x ≤ l.n) ×
+    ((y : ℕ) → y < l.x → same_words l.words (get_or l.starts y 0) (get_or l.starts (y + 1) 0) (class_rows (class_at (summary_in l.s) y) (summary_in l.s).rows) ≡ true)
+
+abbrev pub decreases-loop-x : goal.decreases-loop-x
+decreases-loop-x l = l.n - l.x
