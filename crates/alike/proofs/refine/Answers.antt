@@ -46,8 +46,8 @@ next_level-j-requires c =
     c.loop-j in
     let copy =
     c.copy_classes.ensures in (
-      copied_room _ l.upper l.lower _ (omega (arith, s, l.inv.2)) (omega (arith, s, l.inv.1)) copy,
-      omega (arith, s.4, l.inv.2, c.upper-1),
+      copied_room _ l.upper l.lower _ (omega (arith, s, l.invariant.2)) (omega (arith, s, l.invariant.1)) copy,
+      omega (arith, s.4, l.invariant.2, c.upper-1),
       omega (
         arith,
         s.2,
@@ -60,26 +60,24 @@ loop-j-smaller c = let on = c.next_level-j.ensures in omega (arith, on.rises, on
 
 pub loop-j-preserved : goal.loop-j-preserved
 loop-j-preserved c =
-    let s =
-    c.before.before.before.before.before.before.before.before.before.before.before.before.before.before.before.before.before.before.before.before.before.before.before.before.before.before.before.before.before.before.before.before.before.before in
-    let a = s.args in
+    let a = c.args in
     let l =
     c.loop-j in
-    let o = s.pre.0 in
+    let o = c.requires.0 in
     let fine = of_fine a.reg.now a.n a.m o in
     let copy =
     c.copy_classes.ensures in
     let r = c.step-classes.ensures in
     let on = c.next_level-j.ensures in (
       on.ends,
-      copied_long a.n _ _ _ (omega (arith, s.pre, l.inv.2)) (omega (arith, s.pre, l.inv.1)) copy ∙ l.inv.1,
-      omega (arith, c.upper-1, l.inv.2),
-      omega (arith, c.rows-1, l.inv.3),
-      omega (arith, c.starts-1, l.inv.4),
-      omega (arith, c.keys-1, l.inv.5),
-      omega (arith, c.other-1, l.inv.6),
+      copied_long a.n _ _ _ (omega (arith, c.requires, l.invariant.2)) (omega (arith, c.requires, l.invariant.1)) copy ∙ l.invariant.1,
+      omega (arith, c.upper-1, l.invariant.2),
+      omega (arith, c.rows-1, l.invariant.3),
+      omega (arith, c.starts-1, l.invariant.4),
+      omega (arith, c.keys-1, l.invariant.5),
+      omega (arith, c.other-1, l.invariant.6),
       going_on (register_in a.reg.now) a.mu a.n o.items_are fine l.j a.i _ _ _ _ _ _ _ _ _
-          (going_next (register_in a.reg.now) a.mu a.n o.items_are fine l.j _ _ _ _ _ _ _ _ l.inv.7 _ _ _ _ _ copy r.0 r.1 r.2) on,
+          (going_next (register_in a.reg.now) a.mu a.n o.items_are fine l.j _ _ _ _ _ _ _ _ l.invariant.7 _ _ _ _ _ copy r.0 r.1 r.2) on,
     )
 
 pub shape_of-lower : goal.shape_of-lower

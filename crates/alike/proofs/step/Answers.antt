@@ -15,17 +15,15 @@ use Rattle.alike.proofs.step.Goals as goal
 
 pub number_by_signature-requires : goal.number_by_signature-requires
 number_by_signature-requires c =
-    let s =
-    c.before.before.before.before.before.before.before.before.before.before.before.before.before.before.before.before.before.before.before.before.before.before.before.before.before in
-    let a = s.args in
-    let few = limits a.reg.now a.n a.m s.pre.0 in
+    let a = c.args in
+    let few = limits a.reg.now a.n a.m c.requires.0 in
     let r = c.item_rows.ensures in
-    let room = s.pre.4 in (
-      rows_laid (register_in a.reg.now) a.mu (take a.n a.cs.now) a.n _ _ _ _ r.1 r.0 a.cs.now few.0 s.pre.1.long
+    let room = c.requires.4 in (
+      rows_laid (register_in a.reg.now) a.mu (take a.n a.cs.now) a.n _ _ _ _ r.1 r.0 a.cs.now few.0 c.requires.1.long
           (omega (arith, room.for_starts)),
       omega (arith, room.for_keys),
       omega (arith, room.for_other),
-      omega (arith, s.pre),
+      omega (arith, c.requires),
     )
 
 pub returns : goal.returns
