@@ -1,37 +1,21 @@
--- One table of cases, one test that the checker computes, one statement: P1 to P11 of document 01, each findable by its number, and behind
--- them a case for each other clause (Cases). Each goes through the definition that a public call's contract cites, so that bending a
--- definition is refused here. Leans on Figures for the files and questions, on Answers for the calls.
-use Rattle.std.specs.Prelude.{ℕ, ◌+◌, ◌*◌, Bool, true, false, cond, ◌&&◌, List, [], ◌∷◌, ◌++◌, T, eqb, length}
+-- One table of cases, one test that the checker computes, one statement (proofs/Examples): P1 to P11 of document 01, each findable by its
+-- number, and behind them a case for each other clause (Cases). Each goes through the definition that a public call's contract cites, so
+-- that bending a definition is refused there. Leans on Figures for the files and questions, on Answers for the calls.
+use Rattle.std.specs.Prelude.{ℕ, ◌+◌, ◌*◌, Bool, true, false, cond, ◌&&◌, List, [], ◌∷◌, ◌++◌, eqb, length}
 use Rattle.meaning.specs.Bytes.{num2}
-use Rattle.meaning.specs.Count as Count
-use Rattle.meaning.specs.Register as Register
-use Rattle.meaning.specs.Level as Level
-use Rattle.meaning.specs.Question as Question
-use Rattle.meaning.specs.Reading as Reading
-use Rattle.meaning.specs.Summary as Summary
-use Rattle.meaning.specs.Condense as Condense
-use Rattle.meaning.specs.WellFormed as WellFormed
-use Rattle.meaning.specs.Check as Check
-use Rattle.meaning.specs.Bytes as Bytes
-use Rattle.meaning.specs.RegisterFile as RegisterFile
-use Rattle.meaning.specs.SummaryFile as SummaryFile
-use Rattle.meaning.specs.QuestionFile as QuestionFile
-use Rattle.meaning.specs.Answers as Answers
 use Rattle.meaning.specs.Answers.{Answer, refused, said, wrote, condense, check, ask_register, ask_summary, list}
-use Rattle.meaning.specs.Figures as Figures
 use Rattle.meaning.specs.Figures.{A, chain, three, pair, empty, S1, none, literal, out, incoming, truth}
-use Rattle.meaning.specs.Cases as Cases
 use Rattle.meaning.specs.Cases.{Case, bytes, counts, registers, questions, holding, reaching, well_formedness, condensing, checking, orders, lent}
 
 -- ---- answers
 
-same : List ℕ → List ℕ → Bool
+unfoldable pub same : List ℕ → List ℕ → Bool
 same [] [] = true
 same [] (y ∷ ys) = false
 same (x ∷ xs) [] = false
 same (x ∷ xs) (y ∷ ys) = eqb x y && same xs ys
 
-equal : Answer → Answer → Bool
+unfoldable pub equal : Answer → Answer → Bool
 equal (refused j) (refused k) = eqb j k
 equal (refused j) (said t) = false
 equal (refused j) (wrote q) = false
@@ -44,10 +28,10 @@ equal (wrote p) (said t) = false
 equal (wrote p) (wrote q) = same p q
 
 -- a question at item 0 of a summary at level 1; and row j of that summary
-asked : ℕ → List ℕ → List ℕ → Answer
+unfoldable pub asked : ℕ → List ℕ → List ℕ → Answer
 asked µ b q = let s = bytes (condense 1 µ 1 b 9999) in ask_summary s q 0
 
-row : ℕ → List ℕ → ℕ → Answer
+unfoldable pub row : ℕ → List ℕ → ℕ → Answer
 row µ b j =
     let s = bytes (condense 1 µ 1 b 9999) in
     let at = num2 s 18 + 8 * j in
@@ -55,7 +39,7 @@ row µ b j =
 
 -- ---- the table
 
-numbered : List Case
+unfoldable pub numbered : List Case
 numbered =
     -- P1: "that summary; the file has 112 bytes": there is room in 112 bytes and not in 111; and it is an abstraction of A
     record { P = 1; got = condense 1 1 1 A 112; want = wrote S1 } ∷
@@ -115,42 +99,9 @@ numbered =
     record { P = 11; got = condense 1 1 1 empty 23; want = refused 9 } ∷
     []
 
-pub table : List Case
+unfoldable pub table : List Case
 table = numbered ++ (registers ++ (questions ++ (holding ++ (reaching ++ (well_formedness ++ (condensing ++ (checking ++ (orders ++ lent))))))))
 
-pub passes : List Case → Bool
+unfoldable pub passes : List Case → Bool
 passes [] = true
 passes (c ∷ cs) = equal c.got c.want && passes cs
-
--- every case of the table is answered as document 01 says: computed with the definitions of each page, which are named here
-pub examples : T (passes table)
-unfolding passes table numbered same equal asked row
-    Cases.so Cases.bytes Cases.counts Cases.tallied Cases.judged Cases.read Cases.sign_and_size Cases.handed Cases.registers Cases.questions Cases.holding
-    Cases.reaching Cases.well_formedness Cases.condensing Cases.checking Cases.orders Cases.lent
-    Figures.A Figures.chain Figures.three Figures.pair Figures.empty Figures.marked Figures.a_link Figures.drawn Figures.crossed Figures.by_target
-    Figures.doubled Figures.knot Figures.fifteen Figures.uneven Figures.S1 Figures.none Figures.a_class Figures.a_row Figures.picture
-    Figures.proposed Figures.classes_a Figures.out_a Figures.out_a2 Figures.in_a Figures.in_a2 Figures.rows_a Figures.links_a Figures.map_a
-    Figures.classed Figures.rowed Figures.linked Figures.mapped Figures.chained Figures.three_as Figures.fifteen_as Figures.fifteen_in_two Figures.knot_summary
-    Figures.crossed_summary Figures.ring Figures.disagreeing Figures.sized Figures.crowd Figures.entry Figures.literal Figures.out
-    Figures.incoming Figures.truth Figures.negated Figures.conjoined Figures.disjoined Figures.deep Figures.nots
-    Count.sum Count.all Count.those Count.seek Count.tab Count.join Count.total Count.any Count.each Count.ascends
-    Register.marks_of Register.same_way Register.near Register.far Register.leads Register.neighbours
-    Level.same_count Level.same_around Level.alike Level.first Level.lowest Level.number Level.class_list Level.class_count Level.lowest_item
-    Question.bit Question.shows Question.holds Question.depth Question.threshold
-    Reading.push Reading.and_push Reading.stack Reading.only Reading.tree
-    Summary.class_of Summary.class_at Summary.group_at Summary.lowest_class Summary.row_for Summary.counted Summary.stated Summary.joins
-    Summary.holds_at Summary.list
-    Condense.row_unless Condense.rows_that Condense.class_for Condense.links_from Condense.summary_by Condense.summary_of
-    WellFormed.within WellFormed.link_key WellFormed.way WellFormed.row_key WellFormed.link_in WellFormed.in_range WellFormed.class_in
-    WellFormed.row_in WellFormed.has_row WellFormed.has_link WellFormed.rows_match WellFormed.sizes WellFormed.numbers WellFormed.order
-    WellFormed.groups_used WellFormed.well_formed
-    Check.row_right Check.image_stands Check.is_image Check.fits
-    Bytes.num2 Bytes.num4 Bytes.put2 Bytes.put4 Bytes.pack
-    RegisterFile.link_at RegisterFile.put_link RegisterFile.register_in RegisterFile.register_head RegisterFile.register_bytes RegisterFile.headed
-    RegisterFile.links_fine RegisterFile.fault
-    SummaryFile.class_is SummaryFile.put_class SummaryFile.way_from SummaryFile.label_from SummaryFile.row_is SummaryFile.put_row
-    SummaryFile.summary_in SummaryFile.summary_head SummaryFile.summary_bytes SummaryFile.exact SummaryFile.well_formed_file
-    QuestionFile.signed QuestionFile.when QuestionFile.kind QuestionFile.and_kind QuestionFile.kinds QuestionFile.tree_of QuestionFile.question
-    Answers.returned Answers.code Answers.left Answers.unless Answers.into Answers.condense Answers.check Answers.ask_tree Answers.ask_register
-    Answers.beyond Answers.ask_in Answers.ask_summary Answers.list_in Answers.list
-examples = tt

@@ -1,0 +1,2 @@
+-- What is proved of the definitions: that the table of examples computes.
+pub mod Examples
