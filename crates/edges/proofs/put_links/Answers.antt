@@ -7,6 +7,7 @@ use lib.ListN.{length, take}
 use lib.Seq.{length-take-le, get_or-take}
 use Rattle.edges.proofs.Laws.{put_long, key_below, Written, written_none, written_skip, written_next, written_all}
 use Rattle.edges.proofs.put_links.Goals as goal
+use Rattle.edges.proofs.put_links.Goals.{then-least-v, else-least-v}
 
 pub loop-i-init : goal.loop-i-init
 loop-i-init c = (omega arith, omega arith, refl, written_none _ _)
@@ -41,15 +42,15 @@ loop-i-preserved c =
     let l = c.loop-i in
     let h : l.i < length (take a.m a.keys.now) = omega (arith, length-take-le a.m a.keys.now c.requires.0) in
     let e = sym (get_or-take a.m a.keys.now l.i 0 (omega arith)) in
-    ⊎_elim
-    (λ w.
-    let put = w.5 ∙ w.2.ensures in
-    let next = written_next _ l.out l.i l.least l.r _ h e l.invariant.3 c.if-least-v.out w.0.taken (omega (arith, c.requires)) put in
-    (omega arith, omega (arith, w.7), put_long l.out c.if-least-v.out l.r _ put ∙ l.invariant.2, rw (w.6, w.7) next))
-    (λ w.
-    let next = written_skip _ _ l.i l.least l.r _ h e l.invariant.3 w.0.left in
-    (omega arith, omega (arith, w.3), ap length w.1 ∙ l.invariant.2, rw (w.1, w.2, w.3) next))
-    c.if-least-v.branch
+    elim c.if-least-v.branch [
+      | then-least-v w ↦
+          let put = w.out-is ∙ w.put_link.ensures in
+          let next = written_next _ l.out l.i l.least l.r _ h e l.invariant.3 c.if-least-v.out w.if-least-v.true (omega (arith, c.requires)) put in
+          (omega arith, omega (arith, w.r-is), put_long l.out c.if-least-v.out l.r _ put ∙ l.invariant.2, rw (w.least-is, w.r-is) next)
+      | else-least-v w ↦
+          let next = written_skip _ _ l.i l.least l.r _ h e l.invariant.3 w.if-least-v.false in
+          (omega arith, omega (arith, w.r-is), ap length w.out-is ∙ l.invariant.2, rw (w.out-is, w.least-is, w.r-is) next)
+    ]
 
 pub shape_of-out : goal.shape_of-out
 shape_of-out c = omega arith

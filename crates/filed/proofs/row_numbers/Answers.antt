@@ -6,6 +6,7 @@ use native.Mathlib.Omega.{arith}
 use lib.ListN.{length, take}
 use Rattle.filed.proofs.Laws.{Under, none_done, classes_long, starts_long, class_small, rise, ends, words_stand, first_turn, other_turn, all_done}
 use Rattle.filed.proofs.row_numbers.Goals as goal
+use Rattle.filed.proofs.row_numbers.Goals.{then-classes-x, else-classes-x}
 
 pub loop-x-init : goal.loop-x-init
 loop-x-init c = (omega arith, c.requires.1, none_done _ _ _ _ _)
@@ -59,18 +60,18 @@ overflow_add-at c =
 pub loop-x-preserved : goal.loop-x-preserved
 loop-x-preserved c =
     let g = c.requires.0.3 in
-    ⊎_elim
-    (λ w. (
-      omega arith,
-      ap length w.8 ∙ omega arith,
-      first_turn _ _ _ _ _ _ _ g _ _ _ _ _ (omega arith) c.loop-x.invariant.2 w.0.taken w.5.ensures w.8 w.9 w.10,
-    ))
-    (λ w. (
-      omega arith,
-      ap length w.1 ∙ c.loop-x.invariant.1,
-      other_turn _ _ _ _ _ _ _ g _ _ _ _ _ (omega arith) c.loop-x.invariant.2 w.0.left w.1 w.2 w.3,
-    ))
-    c.if-classes-x.branch
+    elim c.if-classes-x.branch [
+      | then-classes-x w ↦ (
+        omega arith,
+        ap length w.out-is ∙ omega arith,
+        first_turn _ _ _ _ _ _ _ g _ _ _ _ _ (omega arith) c.loop-x.invariant.2 w.if-classes-x.true w.copy_rows.ensures w.out-is w.seen-is w.at-is,
+      )
+      | else-classes-x w ↦ (
+        omega arith,
+        ap length w.out-is ∙ c.loop-x.invariant.1,
+        other_turn _ _ _ _ _ _ _ g _ _ _ _ _ (omega arith) c.loop-x.invariant.2 w.if-classes-x.false w.out-is w.seen-is w.at-is,
+      )
+    ]
 
 pub returns : goal.returns
 returns c =

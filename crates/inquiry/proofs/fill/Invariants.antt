@@ -1,0 +1,18 @@
+-- From the last entry to the first: the rows from j on are known.
+use Rattle.register.proofs.Laws.{limits}
+use mathlib.Core.Path.{◌≡◌, refl}
+use Prim.Native.Nat.{◌+◌, ◌-◌, ◌/◌, ◌≤◌}
+use native.Mathlib.Omega.{arith}
+use lib.ListN.{length}
+use Rattle.meaning.specs.RegisterFile.{register_in}
+use Rattle.question.proofs.Laws.{done_not_refused}
+use Rattle.inquiry.specs.Known.{Known}
+use Rattle.inquiry.proofs.Laws.{known_none, known_from, few_entries}
+use borrow.Author.Rules.{rules}
+use Rattle.inquiry.proofs.fill.Given as goal
+
+abbrev pub invariant-loop-j : goal.invariant-loop-j
+invariant-loop-j l = (l.j ≤ length l.q / 4) × (length l.table ≡ length l.initial.table) × Known (register_in l.reg) l.q l.n l.table l.j
+
+abbrev pub decreases-loop-j : goal.decreases-loop-j
+decreases-loop-j l = l.j
