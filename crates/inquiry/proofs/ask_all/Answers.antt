@@ -15,4 +15,4 @@ pub returns : goal.returns
 returns c =
     let e : c.index-at.result ≡ 1024 * 0 + c.args.x.0 = omega (arith, c.index-at.ensures) in
     ap (λ (b : Bool). Said b)
-    (ap (λ (i : ℕ). get_or c.fill.new.0 i false) e ∙ known_all _ _ c.args.n _ _ c.requires.1 c.requires.2 c.fill.ensures.known)
+    (ap (λ (i : ℕ). get_or c.fill.new.table i false) e ∙ known_all _ _ c.args.n _ _ c.requires.1 c.requires.2 c.fill.ensures.known)

@@ -1,0 +1,18 @@
+-- The classes from `from` up to k are answered.
+use native.Mathlib.Omega.{arith}
+use mathlib.Core.Path.{◌≡◌, refl}
+use Prim.Native.Nat.{◌-◌, ◌<◌}
+use lib.ListN.{length, length-set}
+use Rattle.meaning.specs.SummaryFile.{summary_in}
+use Rattle.header.proofs.File.{sized_file}
+use Rattle.consult.specs.Consulted.{Remembers}
+use Rattle.consult.proofs.Laws.{Answered, one_answered, not_answered}
+use borrow.Author.Rules.{rules}
+use Rattle.consult.proofs.put_each.Given as goal
+
+abbrev pub invariant-loop-k : goal.invariant-loop-k
+invariant-loop-k l =
+    Answered l.q (summary_in l.s) l.from l.answers l.k × (length l.answers ≡ length l.initial.answers) × Remembers l.q (summary_in l.s) l.known × (length l.known ≡ length l.initial.known)
+
+abbrev pub decreases-loop-k : goal.decreases-loop-k
+decreases-loop-k l = l.to - l.k
