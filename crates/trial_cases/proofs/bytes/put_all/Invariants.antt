@@ -1,5 +1,5 @@
 -- The loop ends, and what is lent keeps its length.
-use Rattle.std.proofs.Common.{◌≡◌, ◌-◌, ◌≤◌, length, rules}
+use Rattle.std.proofs.Common.{◌≡◌, ◌-◌, ◌≤◌, length}
 use Rattle.trial_cases.proofs.bytes.put_all.Given as goal
 
 abbrev pub invariant-loop-k : goal.invariant-loop-k

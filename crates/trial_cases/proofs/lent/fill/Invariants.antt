@@ -1,5 +1,5 @@
 -- The loop ends, and the buffer keeps its length.
-use Rattle.std.proofs.Common.{◌≡◌, ◌-◌, ◌≤◌, length, rules}
+use Rattle.std.proofs.Common.{◌≡◌, ◌-◌, ◌≤◌, length}
 use Rattle.trial_cases.proofs.lent.fill.Given as goal
 
 abbrev pub invariant-loop-p : goal.invariant-loop-p

@@ -1,5 +1,5 @@
 -- The loop ends.
-use Rattle.std.proofs.Common.{◌-◌, ◌≤◌, length, rules}
+use Rattle.std.proofs.Common.{◌-◌, ◌≤◌, length}
 use Rattle.trial_cases.proofs.lent.hash.Given as goal
 
 abbrev pub invariant-loop-p : goal.invariant-loop-p
