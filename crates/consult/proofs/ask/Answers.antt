@@ -6,7 +6,7 @@ use Rattle.consult.proofs.ask.Goals as goal
 
 pub returns-in_default : goal.returns-in_default
 returns-in_default c =
-    alone_refused _ _ _ _ c.index-k.ensures _ c.put_answers.new.answers.1.1.1.1.1.0 c.put_answers.ensures _ _ c.in_default.is
+    alone_refused _ _ _ _ c.index-k.ensures _ c.put_answers.new.answers c.put_answers.ensures _ _ c.in_default.is
 
 pub bounds-answers-k : goal.bounds-answers-k
 bounds-answers-k c =
@@ -15,4 +15,4 @@ bounds-answers-k c =
 
 pub returns : goal.returns
 returns c =
-    alone_answered _ _ _ _ c.index-k.ensures _ c.put_answers.new.answers.1.1.1.1.1.0 c.put_answers.ensures
+    alone_answered _ _ _ _ c.index-k.ensures _ c.put_answers.new.answers c.put_answers.ensures

@@ -62,7 +62,7 @@ loop-k-preserved c =
       l.invariant.1,
     ) in
     let said = c.holds.ensures in
-    (one_answered _ _ _ l.answers l.k _ _ h said.0 c.in-Said.is l.invariant.0, simp length-set l.invariant.1, said.1, search rules)
+    (one_answered _ _ _ l.answers l.k _ _ h said.holds c.in-Said.is l.invariant.0, simp length-set l.invariant.1, said.known, search rules)
 
 pub shape_of-known : goal.shape_of-known
 shape_of-known c = c.loop-k.invariant.3
