@@ -5,6 +5,7 @@ use Prim.Native.Nat.{ℕ}
 use lib.IntN.{ℤ}
 use contract.Lifetimes.{Lfts}
 use denote.Ref.{Bor}
+use denote.MutBor.{MutBor}
 use denote.Triple.Entry.{Args}
 use denote.Triple.Clauses.{at_exit}
 use Rattle.said.specs.declared.Said.{Said}
@@ -34,9 +35,13 @@ use Rattle.hestovane.proofs.hestovane_list.Reads as c-list-reads
 abbrev pub Slice : Type 0
 Slice = Bor (List ℕ)
 
+-- a lent buffer as a call is handed it: `.now` is what it holds then
+abbrev pub Buffer : Type 0
+Buffer = MutBor (List ℕ)
+
 -- ---- a call and what its contract says of it: the value handed back, and last what the lent buffer holds afterwards
 
-abbrev pub Condensed : Lfts 2 → (reg : Slice) (i µ ν : ℕ) (out : Slice) → Wrote → List ℕ → Type 0
+abbrev pub Condensed : Lfts 2 → (reg : Slice) (i µ ν : ℕ) (out : Buffer) → Wrote → List ℕ → Type 0
 Condensed κs reg i µ ν out r after =
     let a : Args condense-call.signature κs = (reg, (i, (µ, (ν, (out, tt))))) in
     condense-reads.Learnt κs a r (at_exit condense-call.ended κs a (tt, (tt, (tt, (tt, (after, tt))))))
@@ -56,14 +61,14 @@ AskedSummary κs s q x r =
     let a : Args ask-summary-call.signature κs = (s, (q, (x, tt))) in
     ask-summary-reads.Learnt κs a r (at_exit ask-summary-call.ended κs a (tt, (tt, (tt, tt))))
 
-abbrev pub Listed : Lfts 3 → (s q out : Slice) → Wrote → List ℕ → Type 0
+abbrev pub Listed : Lfts 3 → (s q : Slice) (out : Buffer) → Wrote → List ℕ → Type 0
 Listed κs s q out r after =
     let a : Args list-call.signature κs = (s, (q, (out, tt))) in
     list-reads.Learnt κs a r (at_exit list-call.ended κs a (tt, (tt, (after, tt))))
 
 -- ---- the same for the functions of C
 
-abbrev pub CCondensed : Lfts 2 → (i µ ν : ℕ) (reg out : Slice) → ℤ → List ℕ → Type 0
+abbrev pub CCondensed : Lfts 2 → (i µ ν : ℕ) (reg : Slice) (out : Buffer) → ℤ → List ℕ → Type 0
 CCondensed κs i µ ν reg out r after =
     let a : Args c-condense-call.signature κs = (i, (µ, (ν, (reg, (out, tt))))) in
     c-condense-reads.Learnt κs a r (at_exit c-condense-call.ended κs a (tt, (tt, (tt, (tt, (after, tt))))))
@@ -83,7 +88,7 @@ CAskedSummary κs s q x r =
     let a : Args c-ask-summary-call.signature κs = (s, (q, (x, tt))) in
     c-ask-summary-reads.Learnt κs a r (at_exit c-ask-summary-call.ended κs a (tt, (tt, (tt, tt))))
 
-abbrev pub CListed : Lfts 3 → (s q out : Slice) → ℤ → List ℕ → Type 0
+abbrev pub CListed : Lfts 3 → (s q : Slice) (out : Buffer) → ℤ → List ℕ → Type 0
 CListed κs s q out r after =
     let a : Args c-list-call.signature κs = (s, (q, (out, tt))) in
     c-list-reads.Learnt κs a r (at_exit c-list-call.ended κs a (tt, (tt, (after, tt))))

@@ -89,7 +89,7 @@ module _ (w : World) where
     shown : Lent κ q x ⊢ w.𝓛.H.⇛ (fact w.𝓤 Byte)
     shown =
         via w.𝓤 (w.𝓛.H.⇛ Seen)
-        (shs_glance w.𝓛 (f_int w8) κ q x.ref_ptr.0 x.ref_ptr.1 x.ghost_name x.now i _ 0 refl h)
+        (shs_glance w.𝓛 (f_int w8) κ q x.ref_ptr.0 x.ref_ptr.1 x.now i _ 0 refl h)
         (w.𝓛.laws.⇛_mono Seen (fact w.𝓤 Byte)
         (ex_e w.𝓤 (λ (s : Share). Cell s ∗ Back s)
         (λ s.
@@ -109,14 +109,14 @@ module _ (w : World) where
 
   abbrev OwnAt : ℕ → (Rs : List RattleType) → Denots Rs → Valss Rs → Pr w
   OwnAt k [] a vss = emp w.𝓤
-  OwnAt zero (R ∷ Rs) a vss = ⟦ R.own a.0 vss.0 ⟧
+  OwnAt zero (R ∷ Rs) a vss = ⟦ R.own_val a.0 vss.0 ⟧
   OwnAt (suc k) (R ∷ Rs) a vss = OwnAt k Rs a.1 vss.1
 
   own_at : (k : ℕ) (Rs : List RattleType) (a : Denots Rs) (vss : Valss Rs) → Owns Rs a vss ⊢ OwnAt k Rs a vss
   own_at k [] a vss = id⊢ w.𝓤 (emp w.𝓤)
-  own_at zero (R ∷ Rs) a vss = fst∗ w.𝓤 ⟦ R.own a.0 vss.0 ⟧ (Owns Rs a.1 vss.1)
+  own_at zero (R ∷ Rs) a vss = fst∗ w.𝓤 ⟦ R.own_val a.0 vss.0 ⟧ (Owns Rs a.1 vss.1)
   own_at (suc k) (R ∷ Rs) a vss =
-      via w.𝓤 (Owns Rs a.1 vss.1) (snd∗ w.𝓤 ⟦ R.own a.0 vss.0 ⟧ (Owns Rs a.1 vss.1)) (own_at k Rs a.1 vss.1)
+      via w.𝓤 (Owns Rs a.1 vss.1) (snd∗ w.𝓤 ⟦ R.own_val a.0 vss.0 ⟧ (Owns Rs a.1 vss.1)) (own_at k Rs a.1 vss.1)
 
   -- a parameter `&[u8]` owns what a slice of u8 does
   abbrev Parameter : Lft → Bor (List ℕ) → List Val → Pr w
@@ -127,7 +127,7 @@ module _ (w : World) where
 
   as_slice : (κ : Lft) (x : Bor (List ℕ)) (vs : List Val) → Parameter κ x vs ⊢ Slice8 κ x
   as_slice κ x vs =
-      via w.𝓤 (guard w.𝓤 (Is x vs) (Slice8 κ x)) ((shr_laws w.𝓛 1 (rt_f (f_int w8)) 0 tt).own_in (κ, tt) x vs)
+      via w.𝓤 (guard w.𝓤 (Is x vs) (Slice8 κ x)) ((shr_laws w.𝓛 1 (rt_f (f_int w8)) (named 0) 0 tt).own_in (κ, tt) x vs)
       (guard_e w.𝓤 (Is x vs) (Slice8 κ x) (λ t. id⊢ w.𝓤 (Slice8 κ x)))
 
   slice_of : (k : ℕ) (Rs : List RattleType) (a : Denots Rs) (vss : Valss Rs) (κ : Lft) (x : Bor (List ℕ)) (vs : List Val) →

@@ -36,15 +36,15 @@ use Rattle.demands.proofs.Held.{Held, condense_bytes, hestovane_condense_bytes}
 use Rattle.hestovane.proofs.OneAnswer.{clash}
 use Rattle.hestovane.specs.contracts.condense as condense-call
 use Rattle.hestovane.specs.contracts.hestovane_condense as c-condense-call
-use Rattle.demands.proofs.Calls.{Slice, Condensed, CCondensed}
+use Rattle.demands.proofs.Calls.{Slice, Buffer, Condensed, CCondensed}
 
 -- ---- a summary made here, in any model of the logic: what a call of condensing wrote, or the same function of C
 
 pub data Made (w : World) (i µ ν : ℕ) (b s : List ℕ) : Type 1 where
-  condensed : (κs : Lfts 2) (reg out : Slice) (k : ℕ) (after : List ℕ) →
+  condensed : (κs : Lfts 2) (reg : Slice) (out : Buffer) (k : ℕ) (after : List ℕ) →
       Held w condense-call.signature κs (reg, (i, (µ, (ν, (out, tt))))) →
       Condensed κs reg i µ ν out (Length k) after → reg.now ≡ b → take k after ≡ s → Made w i µ ν b s
-  hestovane_condensed : (κs : Lfts 2) (reg out : Slice) (k : ℕ) (after : List ℕ) →
+  hestovane_condensed : (κs : Lfts 2) (reg : Slice) (out : Buffer) (k : ℕ) (after : List ℕ) →
       Held w c-condense-call.signature κs (i, (µ, (ν, (reg, (out, tt))))) →
       CCondensed κs i µ ν reg out (pos k) after → reg.now ≡ b → take k after ≡ s → Made w i µ ν b s
 

@@ -35,7 +35,7 @@ use Rattle.said.specs.declared.Said.TheVariants.{Yes}
 use Rattle.said.specs.declared.Wrote.{Wrote}
 use Rattle.said.specs.declared.Wrote.TheVariants.{Length, Refused}
 use Rattle.hestovane.proofs.OneAnswer.{clash, said_one, wrote_one}
-use Rattle.demands.proofs.Calls.{Slice, Checked, AskedRegister, AskedSummary, Listed, CChecked, CAskedRegister, CAskedSummary, CListed}
+use Rattle.demands.proofs.Calls.{Slice, Buffer, Checked, AskedRegister, AskedSummary, Listed, CChecked, CAskedRegister, CAskedSummary, CListed}
 use Rattle.demands.proofs.Made.{Made, Written, made_written, wrote_gives, wrote_code, list_fills}
 use Rattle.demands.proofs.Made.{asked_as, yes_word, yes_code, past_asked, list_reach}
 
@@ -134,7 +134,7 @@ module _ {w : World} {i µ ν : ℕ} {b s : List ℕ} (m : Made w i µ ν b s) w
 
     -- "Given room for the list, the list worked out from summary and question alone names every item at which the question holds in the full
     -- register, each exactly once, in ascending order, and no other": two bytes an item, and the bytes past them stay; else 9 and no byte changes
-    pub made_listed : (κs : Lfts 3) (s' q out : Slice) (r : Wrote) (after : List ℕ) → Listed κs s' q out r after →
+    pub made_listed : (κs : Lfts 3) (s' q : Slice) (out : Buffer) (r : Wrote) (after : List ℕ) → Listed κs s' q out r after →
         s'.now ≡ s → question q.now ≡ some t → Names Length (Refused Room) (Found b t) out.now r after
     made_listed κs s' q out r after e f read =
         let one = list_answer s'.now q.now (length out.now) f read in
@@ -147,7 +147,7 @@ module _ {w : World} {i µ ν : ℕ} {b s : List ℕ} (m : Made w i µ ν b s) w
           short = λ h. (wrote_one r (Refused Room) (says ∙ (n.1 h).0), leaves ∙ (n.1 h).1);
         }
 
-    pub hestovane_made_listed : (κs : Lfts 3) (s' q out : Slice) (r : ℤ) (after : List ℕ) → CListed κs s' q out r after →
+    pub hestovane_made_listed : (κs : Lfts 3) (s' q : Slice) (out : Buffer) (r : ℤ) (after : List ℕ) → CListed κs s' q out r after →
         s'.now ≡ s → question q.now ≡ some t → Names pos (negsuc 8) (Found b t) out.now r after
     unfolding code
     hestovane_made_listed κs s' q out r after e f read =
@@ -222,14 +222,14 @@ module _ {w : World} {i µ ν : ℕ} {b s : List ℕ} (m : Made w i µ ν b s) w
         hestovane_named = λ κs reg q' x y h u v. hestovane_made_named t r.2 r.3 κs reg q' x y h u (ap question v ∙ r.1);
       }
 
-  pub demand_3 : (κs : Lfts 3) (s' q out : Slice) (k : ℕ) (after : List ℕ) → Listed κs s' q out (Length k) after → s'.now ≡ s →
+  pub demand_3 : (κs : Lfts 3) (s' q : Slice) (out : Buffer) (k : ℕ) (after : List ℕ) → Listed κs s' q out (Length k) after → s'.now ≡ s →
       Exact b q.now out.now k after
   demand_3 κs s' q out k after e f =
       let g = subst (λ (v : List ℕ). Gives (Length k) out.now after (Answers.list v q.now (length out.now))) f e in
       let a = Answers.list s q.now (length out.now) in
       exact q.now out.now after k (wrote_gives a k out.now after g) g.leaves g.says
 
-  pub hestovane_demand_3 : (κs : Lfts 3) (s' q out : Slice) (k : ℕ) (after : List ℕ) → CListed κs s' q out (pos k) after → s'.now ≡ s →
+  pub hestovane_demand_3 : (κs : Lfts 3) (s' q : Slice) (out : Buffer) (k : ℕ) (after : List ℕ) → CListed κs s' q out (pos k) after → s'.now ≡ s →
       Exact b q.now out.now k after
   hestovane_demand_3 κs s' q out k after e f =
       let room = length out.now in

@@ -10,10 +10,11 @@ use base.Logic.{ent, sep, ex, via, fst∗, snd∗, mono_l}
 use types.Logic.{sem}
 use prog.Memory.{Memory}
 use prog.Machine.{done}
-use prog.Routine.{Routine, anyName}
+use prog.Routine.{Routine, Env, any_callee, step}
+use prog.Wired.{Wired}
 use contract.Monad.{fact}
 use contract.Lifetimes.{Lfts}
-use contract.Running.{tables, tables_of}
+use contract.Running.{tables, tables_of, strict, within}
 use contract.Adequate.{Satisfies, sat_weaken, sat_⇛, sat_ex∗, sat_fact}
 use denote.Triple.Entry.{on_entry}
 use denote.Triple.Bound.{Bound, passed}
@@ -48,6 +49,10 @@ use Rattle.hestovane.proofs.hestovane_list.Reads as list-reads
 use Rattle.hestovane.proofs.hestovane_list.Symbol as list-symbol
 use Rattle.hestovane.proofs.hestovane_list.Met as list-met
 
+-- the world w where a name means what it does in γ, no call is cut off, and no other thread runs
+abbrev pub In_γ : World → Env → World
+In_γ w γ = record { M = w.M; 𝓤 = w.𝓤; 𝓛 = w.𝓛; 𝓜 = w.𝓜; 𝓡 = within w.𝓤 w.𝓛.H w.𝓜 (strict w.𝓤 w.𝓛.H w.𝓜 w.𝓡) γ }
+
 module _ (w : World) {n : ℕ} (ps : List (ParamKind n)) (r : ResultKind n) (Learnt : Out n ps r) (ρ : Routine) where
   abbrev Call : Type 0
   Call = Bound w.𝓛 (sig_of n ps r)
@@ -63,7 +68,7 @@ module _ (w : World) {n : ℕ} (ps : List (ParamKind n)) (r : ResultKind n) (Lea
   abbrev Ended : Call → Memory → Pr w → Type 1
   Ended x σ F =
       (fuel : ℕ) × (v : Val) × (σ' : Memory) × (z : (res_t r x.0).Denot) × (ws : Lasts (ended_of n ps r) x.0 x.3) ×
-      (ρ.step fuel (passed w.𝓛 (sig_of n ps r) x) σ ≡ done (v, σ')) ×
+      (step ρ fuel (passed w.𝓛 (sig_of n ps r) x) σ ≡ done (v, σ')) ×
       Learnt x.0 x.3 z (at_exit (ended_of n ps r) x.0 x.3 ws) ×
       Satisfies w.𝓤 w.𝓛.H w.𝓜 σ' (sep w.𝓤 (After x v z ws) F)
 
@@ -73,8 +78,8 @@ module _ (w : World) {n : ℕ} (ps : List (ParamKind n)) (r : ResultKind n) (Lea
 
   module _ (G : Type 0) (req : (κs : Lfts n) → ArgsD (S n ps r [] 0) κs → G → (w : World) → Pr w)
       (ens : (κs : Lfts n) → ArgsD (S n ps r [] 0) κs → G → ResD (S n ps r [] 0) κs → AtExit (ended_of n ps r) κs → (w : World) → Pr w)
-      (Asked : In n ps) (known : KnownAs n ps r G req ens Asked Learnt) (met : Holds n ps r G req ens w (w.𝓡.run ρ))
-      (asked : (x : Call) → Asked x.0 x.3) where
+      (Asked : In n ps) (known : KnownAs n ps r G req ens Asked Learnt) (γ : Env)
+      (met : Holds n ps r G req ens (In_γ w γ) ((In_γ w γ).𝓡.run ρ)) (asked : (x : Call) → Asked x.0 x.3) where
     abbrev Says : (x : Call) → Val → (res_t r x.0).Denot → Lasts (ended_of n ps r) x.0 x.3 → Type 0
     Says x v z ws = Fit (ended_of n ps r) (stays ps) x.0 x.3 ws × Learnt x.0 x.3 z (at_exit (ended_of n ps r) x.0 x.3 ws)
 
@@ -101,7 +106,7 @@ module _ (w : World) {n : ℕ} (ps : List (ParamKind n)) (r : ResultKind n) (Lea
           (via w.𝓤 Left (fst∗ w.𝓤 Left F) (via w.𝓤 (sep w.𝓤 L Fa) (fst∗ w.𝓤 (sep w.𝓤 L Fa) B) (snd∗ w.𝓤 L Fa)))
 
     module _ (x : Call) (σ : Memory) (F : Pr w) (fuel : ℕ) (v : Val) (σ' : Memory)
-        (ends : ρ.step fuel (passed w.𝓛 (sig_of n ps r) x) σ ≡ done (v, σ')) where
+        (ends : step ρ fuel (passed w.𝓛 (sig_of n ps r) x) σ ≡ done (v, σ')) where
       with_values : (z : (res_t r x.0).Denot) (ws : Lasts (ended_of n ps r) x.0 x.3) →
           Satisfies w.𝓤 w.𝓛.H w.𝓜 σ' (sep w.𝓤 (Left x v z ws) F) → ∥ Ended x σ F ∥₁
       with_values z ws s =
@@ -124,39 +129,44 @@ module _ (w : World) {n : ℕ} (ps : List (ParamKind n)) (r : ResultKind n) (Lea
     unfolding tables_of
     ran x σ F s =
         ∥∥₁_elim
-        (adequate w.𝓤 w.𝓛.H w.𝓜 (tables w.𝓤 w.𝓛.H w.𝓜 w.𝓡 (λ _. ρ)) anyName (known_of w.𝓛 n ps r Asked Learnt)
-        (known w (λ _. ρ) anyName ρ refl met) (x, tt) σ F
+        (adequate w.𝓤 w.𝓛.H w.𝓜 (tables w.𝓤 w.𝓛.H w.𝓜 (In_γ w γ).𝓡 (λ _. ρ)) ((λ s e. e), tt) any_callee (known_of w.𝓛 n ps r Asked Learnt)
+        (known (In_γ w γ) (λ _. ρ) any_callee ρ refl met) (x, tt) σ F
         (sat_weaken w.𝓤 w.𝓛.H w.𝓜 σ (mono_l w.𝓤 F (with_fact w.𝓤 (Asked x.0 x.3) (Entry x) (asked x))) s))
         ∥∥₁_prop (λ u. returned x σ F u.0 u.1 u.2 u.3 u.4)
 
--- ---- the functions of C
+-- ---- the functions of C, in any environment γ that has the function's code and the code of all that it calls
 
-pub hestovane_condense_ran : (w : World) → Runs w condense-kinds.ps condense-kinds.r condense-reads.Learnt condense-symbol.routine
-hestovane_condense_ran w =
-    ran w condense-kinds.ps condense-kinds.r condense-reads.Learnt condense-symbol.routine
+pub hestovane_condense_ran : (w : World) (γ : Env) → Wired γ condense-symbol.code →
+    Runs w condense-kinds.ps condense-kinds.r condense-reads.Learnt (γ condense-symbol.name)
+hestovane_condense_ran w γ has =
+    ran w condense-kinds.ps condense-kinds.r condense-reads.Learnt (γ condense-symbol.name)
     condense-reads.Ghost condense-reads.requires condense-reads.ensures
-    condense-reads.Asked condense-reads.known (condense-met.met w.𝓤 w.𝓛 w.𝓜 w.𝓡) (λ x. tt)
+    condense-reads.Asked condense-reads.known γ (condense-met.met w.𝓤 w.𝓛 w.𝓜 (In_γ w γ).𝓡 has) (λ x. tt)
 
-pub hestovane_check_ran : (w : World) → Runs w check-kinds.ps check-kinds.r check-reads.Learnt check-symbol.routine
-hestovane_check_ran w =
-    ran w check-kinds.ps check-kinds.r check-reads.Learnt check-symbol.routine
+pub hestovane_check_ran : (w : World) (γ : Env) → Wired γ check-symbol.code →
+    Runs w check-kinds.ps check-kinds.r check-reads.Learnt (γ check-symbol.name)
+hestovane_check_ran w γ has =
+    ran w check-kinds.ps check-kinds.r check-reads.Learnt (γ check-symbol.name)
     check-reads.Ghost check-reads.requires check-reads.ensures
-    check-reads.Asked check-reads.known (check-met.met w.𝓤 w.𝓛 w.𝓜 w.𝓡) (λ x. tt)
+    check-reads.Asked check-reads.known γ (check-met.met w.𝓤 w.𝓛 w.𝓜 (In_γ w γ).𝓡 has) (λ x. tt)
 
-pub hestovane_ask_register_ran : (w : World) → Runs w ask-register-kinds.ps ask-register-kinds.r ask-register-reads.Learnt ask-register-symbol.routine
-hestovane_ask_register_ran w =
-    ran w ask-register-kinds.ps ask-register-kinds.r ask-register-reads.Learnt ask-register-symbol.routine
+pub hestovane_ask_register_ran : (w : World) (γ : Env) → Wired γ ask-register-symbol.code →
+    Runs w ask-register-kinds.ps ask-register-kinds.r ask-register-reads.Learnt (γ ask-register-symbol.name)
+hestovane_ask_register_ran w γ has =
+    ran w ask-register-kinds.ps ask-register-kinds.r ask-register-reads.Learnt (γ ask-register-symbol.name)
     ask-register-reads.Ghost ask-register-reads.requires ask-register-reads.ensures
-    ask-register-reads.Asked ask-register-reads.known (ask-register-met.met w.𝓤 w.𝓛 w.𝓜 w.𝓡) (λ x. tt)
+    ask-register-reads.Asked ask-register-reads.known γ (ask-register-met.met w.𝓤 w.𝓛 w.𝓜 (In_γ w γ).𝓡 has) (λ x. tt)
 
-pub hestovane_ask_summary_ran : (w : World) → Runs w ask-summary-kinds.ps ask-summary-kinds.r ask-summary-reads.Learnt ask-summary-symbol.routine
-hestovane_ask_summary_ran w =
-    ran w ask-summary-kinds.ps ask-summary-kinds.r ask-summary-reads.Learnt ask-summary-symbol.routine
+pub hestovane_ask_summary_ran : (w : World) (γ : Env) → Wired γ ask-summary-symbol.code →
+    Runs w ask-summary-kinds.ps ask-summary-kinds.r ask-summary-reads.Learnt (γ ask-summary-symbol.name)
+hestovane_ask_summary_ran w γ has =
+    ran w ask-summary-kinds.ps ask-summary-kinds.r ask-summary-reads.Learnt (γ ask-summary-symbol.name)
     ask-summary-reads.Ghost ask-summary-reads.requires ask-summary-reads.ensures
-    ask-summary-reads.Asked ask-summary-reads.known (ask-summary-met.met w.𝓤 w.𝓛 w.𝓜 w.𝓡) (λ x. tt)
+    ask-summary-reads.Asked ask-summary-reads.known γ (ask-summary-met.met w.𝓤 w.𝓛 w.𝓜 (In_γ w γ).𝓡 has) (λ x. tt)
 
-pub hestovane_list_ran : (w : World) → Runs w list-kinds.ps list-kinds.r list-reads.Learnt list-symbol.routine
-hestovane_list_ran w =
-    ran w list-kinds.ps list-kinds.r list-reads.Learnt list-symbol.routine
+pub hestovane_list_ran : (w : World) (γ : Env) → Wired γ list-symbol.code →
+    Runs w list-kinds.ps list-kinds.r list-reads.Learnt (γ list-symbol.name)
+hestovane_list_ran w γ has =
+    ran w list-kinds.ps list-kinds.r list-reads.Learnt (γ list-symbol.name)
     list-reads.Ghost list-reads.requires list-reads.ensures
-    list-reads.Asked list-reads.known (list-met.met w.𝓤 w.𝓛 w.𝓜 w.𝓡) (λ x. tt)
+    list-reads.Asked list-reads.known γ (list-met.met w.𝓤 w.𝓛 w.𝓜 (In_γ w γ).𝓡 has) (λ x. tt)

@@ -1,9 +1,7 @@
 -- Each count stands for the items of its class that were passed.
 use mathlib.Core.Path.{◌≡◌}
-use Prim.Native.Nat.{◌-◌, ◌≤◌}
 use native.Mathlib.Omega.{arith}
-use lib.ListN.{length, length-set, length-replicate}
-use Rattle.capped.specs.Stands.{ByClass}
+use lib.ListN.{length-set, length-replicate}
 use Rattle.capped.specs.declared.Capped.{Capped}
 use Rattle.capped.proofs.Laws.{none_counted, one_counted}
 use Rattle.capped.proofs.by_class.Goals as goal

@@ -1,11 +1,8 @@
 -- Each count stands for the items of its class that were passed.
 use mathlib.Core.Path.{◌≡◌}
 use Prim.Native.Nat.{◌-◌, ◌≤◌}
-use native.Mathlib.Omega.{arith}
-use lib.ListN.{length, length-set, length-replicate}
+use lib.ListN.{length}
 use Rattle.capped.specs.Stands.{ByClass}
-use Rattle.capped.specs.declared.Capped.{Capped}
-use Rattle.capped.proofs.Laws.{none_counted, one_counted}
 use Rattle.capped.proofs.by_class.Given as goal
 
 abbrev pub invariant-loop-x : goal.invariant-loop-x

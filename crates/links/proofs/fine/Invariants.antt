@@ -1,11 +1,7 @@
 -- `fine` passes exactly when each link is in range and comes after the one before. The invariant: link k was read and comes after the
 -- one before, and the links before it are in range and in order, but for their sources, which are not above that of link k.
-use mathlib.Core.Path.{refl, sym, ◌∙◌}
-use Prim.Native.Nat.{◌+◌, ◌-◌, ◌<◌}
-use native.Mathlib.Omega.{arith}
-use borrow.Author.Tests.{not-true, not-false}
-use Rattle.theory.proofs.CountLaws.{all_no}
-use Rattle.links.proofs.Laws.{follows, Hand, all_follow, none_follow, read_at, hand_first, hand_out, hand_beyond, hand_falls, hand_next, hand_last}
+use Prim.Native.Nat.{◌-◌, ◌<◌}
+use Rattle.links.proofs.Laws.{Hand}
 use Rattle.links.proofs.fine.Given as goal
 
 abbrev pub invariant-loop-k : goal.invariant-loop-k

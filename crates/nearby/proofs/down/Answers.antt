@@ -1,9 +1,7 @@
 -- No link passed has x for its target.
 use mathlib.Core.Path.{sym, ◌∙◌}
-use Prim.Native.Nat.{◌≤◌}
 use native.Mathlib.Omega.{arith}
-use Rattle.meaning.specs.RegisterFile.{register_in}
-use Rattle.nearby.proofs.Laws.{has_link_law, Passed, passed_next, passed_found, passed_all}
+use Rattle.nearby.proofs.Laws.{has_link_law, passed_next, passed_found, passed_all}
 use Rattle.nearby.proofs.down.Goals as goal
 
 pub loop-p-init : goal.loop-p-init

@@ -1,8 +1,5 @@
 -- Links below low have no later source than x, and those from high on have.
-use Prim.Native.Nat.{◌-◌, ◌≤◌}
 use native.Mathlib.Omega.{arith}
-use Rattle.meaning.specs.RegisterFile.{register_in}
-use Rattle.nearby.specs.Nearby.{Parts}
 use Rattle.nearby.proofs.Laws.{has_link_law, parts_none, parts_up, parts_down, parts_met}
 use Rattle.nearby.proofs.past.Goals as goal
 

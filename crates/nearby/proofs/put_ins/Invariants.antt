@@ -1,12 +1,10 @@
 -- For each item the place behind the last of its links among those passed, and for each link that before it.
-use mathlib.Core.Path.{◌≡◌, ◌∙◌}
+use mathlib.Core.Path.{◌≡◌}
 use Prim.Native.Nat.{◌-◌, ◌≤◌}
-use native.Mathlib.Omega.{arith}
-use lib.ListN.{length, length-set}
+use lib.ListN.{length}
 use Rattle.meaning.specs.declared.Direction.TheVariants.{Incoming}
 use Rattle.meaning.specs.RegisterFile.{register_in}
-use Rattle.register.proofs.Laws.{limits}
-use Rattle.nearby.proofs.Laws.{has_link_law, Heads, heads_none, Nexts, nexts_none, ins_next, ins_all}
+use Rattle.nearby.proofs.Laws.{Heads, Nexts}
 use Rattle.nearby.proofs.put_ins.Given as goal
 
 abbrev pub invariant-loop-k : goal.invariant-loop-k

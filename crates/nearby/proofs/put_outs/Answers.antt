@@ -1,12 +1,9 @@
 -- For each item the place behind the last of its links among those passed.
 use mathlib.Core.Path.{◌≡◌, ◌∙◌}
-use Prim.Native.Nat.{◌-◌, ◌≤◌}
 use native.Mathlib.Omega.{arith}
-use lib.ListN.{length, length-set}
-use Rattle.meaning.specs.declared.Direction.TheVariants.{Outgoing}
-use Rattle.meaning.specs.RegisterFile.{register_in}
+use lib.ListN.{length-set}
 use Rattle.register.proofs.Laws.{limits}
-use Rattle.nearby.proofs.Laws.{has_link_law, Heads, heads_none, heads_next, source_near, outs_all}
+use Rattle.nearby.proofs.Laws.{has_link_law, heads_none, heads_next, source_near, outs_all}
 use Rattle.nearby.proofs.put_outs.Goals as goal
 
 pub loop-k-init : goal.loop-k-init

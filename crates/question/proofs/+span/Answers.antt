@@ -1,12 +1,9 @@
 -- `span` tells what stands at an entry: by the entry's kind, from what it tells of the operands. The measure is the number of
 -- entries left, which falls as the entry lies within the question. Each way out is a step's law.
-use mathlib.Core.Path.{◌≡◌, ap, subst, ◌∙◌}
+use mathlib.Core.Path.{ap, subst, ◌∙◌}
 use mathlib.Core.Option.{some}
-use Prim.Native.Nat.{ℕ, ◌+◌, ◌/◌, ◌<◌}
 use native.Mathlib.Omega.{arith}
-use lib.ListN.{length}
 use Rattle.question.specs.Read.{Spans}
-use Rattle.entry.specs.Entries.{entry_at}
 use Rattle.entry.proofs.Laws.{is_entry, within_entry}
 use Rattle.question.proofs.Steps.{s_none, s_leaf, s_not, s_least, s_two, s_two_none, s_bounds, s_shallow}
 use Rattle.question.proofs.+span.Goals as goal

@@ -1,6 +1,5 @@
 -- Level, then µ, then ν.
 use mathlib.Core.Path.{sym, ◌∙◌}
-use borrow.Author.Tests.{not-true, not-false}
 use Rattle.range.proofs.Laws.{no_level, no_near, by_class}
 use Rattle.range.proofs.in_range.Goals as goal
 

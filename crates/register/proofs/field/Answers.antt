@@ -1,7 +1,6 @@
 -- `field` reads within the file.
 use native.Mathlib.Omega.{arith}
 use Rattle.register.proofs.Laws.{link_within}
-use Rattle.register.proofs.field.Reads as reads
 use Rattle.register.proofs.field.Goals as goal
 
 pub overflow_mul-n : goal.overflow_mul-n

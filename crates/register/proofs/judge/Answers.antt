@@ -4,7 +4,6 @@ use mathlib.Core.Path.{◌≡◌, sym, ◌∙◌}
 use mathlib.Core.Bool.{Bool, ◌&&◌}
 use Prim.Native.Nat.{ℕ}
 use native.Mathlib.Omega.{arith}
-use borrow.Author.Tests.{not-true, not-false}
 use lib.Dec.{leb}
 use Rattle.register.proofs.Laws.{links_in_order, short, too_many, bad_head, bad_link, all_right, within_limits, head_long}
 use Rattle.register.proofs.judge.Goals as goal

@@ -1,9 +1,8 @@
 -- The numbers written so far stand one behind the other.
 use mathlib.Core.Path.{◌≡◌, refl, ap, ◌∙◌}
-use Prim.Native.Nat.{ℕ, ◌+◌, ◌*◌, ◌-◌, ◌≤◌}
+use Prim.Native.Nat.{ℕ, ◌+◌, ◌*◌}
 use native.Mathlib.Omega.{arith}
 use mathlib.Core.List.{List}
-use lib.ListN.{length}
 use lib.Seq.{sets}
 use Rattle.meaning.specs.Count.{join}
 use Rattle.wire.proofs.Sets.{numbered, numbers_size, numbers_all, then_record}

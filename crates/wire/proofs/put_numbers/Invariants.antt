@@ -1,12 +1,10 @@
 -- The numbers written so far stand one behind the other.
-use mathlib.Core.Path.{◌≡◌, refl, ap, ◌∙◌}
-use Prim.Native.Nat.{ℕ, ◌+◌, ◌*◌, ◌-◌, ◌≤◌}
-use native.Mathlib.Omega.{arith}
-use mathlib.Core.List.{List}
+use mathlib.Core.Path.{◌≡◌}
+use Prim.Native.Nat.{◌-◌, ◌≤◌}
 use lib.ListN.{length}
 use lib.Seq.{sets}
 use Rattle.meaning.specs.Count.{join}
-use Rattle.wire.proofs.Sets.{numbered, numbers_size, numbers_all, then_record}
+use Rattle.wire.proofs.Sets.{numbered}
 use Rattle.wire.proofs.put_numbers.Given as goal
 
 abbrev pub invariant-loop-k : goal.invariant-loop-k
