@@ -1,11 +1,8 @@
 -- The counts after k links are tallied; after all of them they are the neighbours.
-use mathlib.Core.Path.{◌≡◌, refl, ◌∙◌}
 use Prim.Native.Nat.{◌-◌, ◌≤◌}
-use native.Mathlib.Omega.{arith}
 use Rattle.meaning.specs.RegisterFile.{register_in}
 use Rattle.table.specs.Row.{row}
-use Rattle.table.proofs.Laws.{Tallied, tallied_none, tallied_next, tallied_small, tallied_all}
-use Rattle.register.proofs.Laws.{limits}
+use Rattle.table.proofs.Laws.{Tallied}
 use Rattle.table.proofs.count.Given as goal
 
 abbrev pub invariant-loop-k : goal.invariant-loop-k

@@ -1,7 +1,6 @@
 -- A link counts where `leads` says so, and nowhere else.
 use mathlib.Core.Path.{sym, ap, ◌∙◌}
 use native.Mathlib.Omega.{arith}
-use borrow.Author.Tests.{not-true, not-false}
 use Rattle.table.specs.Row.{row}
 use Rattle.table.proofs.Laws.{adds_other, adds_none, adds_one}
 use Rattle.table.proofs.count_link.Goals as goal

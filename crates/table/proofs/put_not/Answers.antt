@@ -1,10 +1,9 @@
 -- Each item of the row is the negation of the row behind it.
 use mathlib.Core.Path.{ap}
 use mathlib.Core.Bool.{not}
-use Prim.Native.Nat.{◌+◌, ◌-◌, ◌≤◌}
+use Prim.Native.Nat.{◌+◌}
 use native.Mathlib.Omega.{arith}
-use Rattle.table.specs.Row.{row}
-use Rattle.table.proofs.Laws.{Part, part_none, part_next, part_all, part_behind}
+use Rattle.table.proofs.Laws.{part_none, part_next, part_all, part_behind}
 use Rattle.table.proofs.put_not.Goals as goal
 
 pub loop-x-init : goal.loop-x-init

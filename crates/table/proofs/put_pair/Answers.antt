@@ -1,10 +1,10 @@
 -- Each item of the row is made of the two rows behind it.
 use mathlib.Core.Path.{ap₂, ◌∙◌}
 use mathlib.Core.Bool.{Bool}
-use Prim.Native.Nat.{◌+◌, ◌-◌, ◌≤◌}
+use Prim.Native.Nat.{◌+◌}
 use native.Mathlib.Omega.{arith}
-use Rattle.table.specs.Row.{row, paired}
-use Rattle.table.proofs.Laws.{Part, part_none, part_next, part_all, part_behind}
+use Rattle.table.specs.Row.{paired}
+use Rattle.table.proofs.Laws.{part_none, part_next, part_all, part_behind}
 use Rattle.table.proofs.put_pair.Goals as goal
 
 pub loop-x-init : goal.loop-x-init

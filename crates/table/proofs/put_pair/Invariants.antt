@@ -1,11 +1,7 @@
 -- Each item of the row is made of the two rows behind it.
-use mathlib.Core.Path.{ap₂, ◌∙◌}
-use mathlib.Core.Bool.{Bool}
 use Prim.Native.Nat.{◌+◌, ◌-◌, ◌≤◌}
-use native.Mathlib.Omega.{arith}
 use Rattle.table.specs.Row.{row, paired}
-use Rattle.table.proofs.Laws.{Part, part_none, part_next, part_all, part_behind}
-use borrow.Author.Rules.{rules}
+use Rattle.table.proofs.Laws.{Part}
 use Rattle.table.proofs.put_pair.Given as goal
 
 abbrev pub invariant-loop-x : goal.invariant-loop-x

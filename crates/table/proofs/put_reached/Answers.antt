@@ -1,10 +1,7 @@
 -- Each item of the row tells whether its count reaches t.
 use mathlib.Core.Path.{refl}
-use Prim.Native.Nat.{◌-◌, ◌≤◌}
 use native.Mathlib.Omega.{arith}
-use lib.Dec.{leb}
-use lib.ListN.{get_or}
-use Rattle.table.proofs.Laws.{Part, part_none, part_next, part_all}
+use Rattle.table.proofs.Laws.{part_none, part_next, part_all}
 use Rattle.table.proofs.put_reached.Goals as goal
 
 pub loop-x-init : goal.loop-x-init

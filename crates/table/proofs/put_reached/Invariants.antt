@@ -1,11 +1,8 @@
 -- Each item of the row tells whether its count reaches t.
-use mathlib.Core.Path.{refl}
 use Prim.Native.Nat.{◌-◌, ◌≤◌}
-use native.Mathlib.Omega.{arith}
 use lib.Dec.{leb}
 use lib.ListN.{get_or}
-use Rattle.table.proofs.Laws.{Part, part_none, part_next, part_all}
-use borrow.Author.Rules.{rules}
+use Rattle.table.proofs.Laws.{Part}
 use Rattle.table.proofs.put_reached.Given as goal
 
 abbrev pub invariant-loop-x : goal.invariant-loop-x

@@ -1,9 +1,7 @@
 -- Each item of the row is written true.
-use mathlib.Core.Path.{refl}
 use mathlib.Core.Bool.{true}
 use Prim.Native.Nat.{◌-◌, ◌≤◌}
-use native.Mathlib.Omega.{arith}
-use Rattle.table.proofs.Laws.{Part, part_none, part_next, part_all}
+use Rattle.table.proofs.Laws.{Part}
 use Rattle.table.proofs.put_true.Given as goal
 
 abbrev pub invariant-loop-x : goal.invariant-loop-x
