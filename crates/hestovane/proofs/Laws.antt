@@ -21,7 +21,6 @@ use Rattle.meaning.specs.Refusals.{number_of}
 use Rattle.meaning.specs.declared.Refusal.{Refusal}
 use Rattle.meaning.specs.declared.Refusal.TheVariants.{Range}
 use Rattle.theory.proofs.WellMade.{level_least}
-use Rattle.said.specs.Written as written
 use Rattle.said.specs.Written.{Gives}
 use Rattle.said.specs.declared.Wrote.TheVariants as writes
 use Rattle.promise.proofs.Promise.{summary_most, in_range_law}

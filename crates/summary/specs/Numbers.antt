@@ -1,6 +1,6 @@
 -- A summary file as a list of two-byte numbers: "Class: marks (four), group, item count"; "Row: class, direction times 16 plus label,
 -- group, neighbour count"; "Class link: source class, label, target class"; "Map: the class of each item." Leans on meaning.
-use Rattle.std.specs.Prelude.{ℕ, ◌+◌, ◌*◌, ◌/◌, ◌%◌, ◌≤◌, List, [], ◌∷◌, ◌++◌, length, take}
+use Rattle.std.specs.Prelude.{ℕ, ◌*◌, ◌/◌, ◌%◌, ◌≤◌, List, [], ◌∷◌, ◌++◌, length, take}
 use Rattle.meaning.specs.Register.{Link}
 use Rattle.meaning.specs.Summary.{Class, Row, Summary}
 use Rattle.meaning.specs.WellFormed.{way}

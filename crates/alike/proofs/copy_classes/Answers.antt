@@ -1,9 +1,8 @@
 -- The front is the source's, the rest as it was.
 use native.Mathlib.Omega.{arith}
 use mathlib.Core.Path.{◌≡◌, refl}
-use mathlib.Core.List.{◌++◌}
-use Prim.Native.Nat.{◌-◌, ◌≤◌}
-use lib.ListN.{length, take, drop, length-set}
+use Prim.Native.Nat.{◌-◌}
+use lib.ListN.{length-set}
 use Rattle.order.proofs.Front.{copy_next}
 use Rattle.alike.proofs.copy_classes.Goals as goal
 

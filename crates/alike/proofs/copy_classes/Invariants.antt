@@ -1,11 +1,8 @@
 -- The front is the source's, the rest as it was.
-use native.Mathlib.Omega.{arith}
-use mathlib.Core.Path.{◌≡◌, refl}
+use mathlib.Core.Path.{◌≡◌}
 use mathlib.Core.List.{◌++◌}
 use Prim.Native.Nat.{◌-◌, ◌≤◌}
-use lib.ListN.{length, take, drop, length-set}
-use Rattle.order.proofs.Front.{copy_next}
-use borrow.Author.Rules.{rules}
+use lib.ListN.{length, take, drop}
 use Rattle.alike.proofs.copy_classes.Given as goal
 
 abbrev pub invariant-loop-x : goal.invariant-loop-x

@@ -1,9 +1,8 @@
 -- After j steps upper has the list of level j, and lower that of the level before (`Going`).
-use Rattle.alike.proofs.ByLevel.{Going, going_first, copied, copied_long, copied_room, going_next, going_on, of_level}
+use Rattle.alike.proofs.ByLevel.{going_first, copied, copied_long, copied_room, going_next, going_on, of_level}
 use native.Mathlib.Omega.{arith}
 use mathlib.Core.Path.{◌≡◌, refl, ◌∙◌}
-use Prim.Native.Nat.{◌-◌, ◌≤◌}
-use lib.ListN.{length}
+use Prim.Native.Nat.{◌-◌}
 use Rattle.meaning.specs.RegisterFile.{register_in}
 use Rattle.register.proofs.Laws.{limits}
 use Rattle.surround.proofs.Keys.{of_fine}

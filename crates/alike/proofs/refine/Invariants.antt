@@ -1,12 +1,9 @@
 -- After j steps upper has the list of level j, and lower that of the level before (`Going`).
-use Rattle.alike.proofs.ByLevel.{Going, going_first, copied, copied_long, copied_room, going_next, going_on, of_level}
-use native.Mathlib.Omega.{arith}
-use mathlib.Core.Path.{◌≡◌, refl, ◌∙◌}
+use Rattle.alike.proofs.ByLevel.{Going}
+use mathlib.Core.Path.{◌≡◌}
 use Prim.Native.Nat.{◌-◌, ◌≤◌}
 use lib.ListN.{length}
 use Rattle.meaning.specs.RegisterFile.{register_in}
-use Rattle.register.proofs.Laws.{limits}
-use Rattle.surround.proofs.Keys.{of_fine}
 use Rattle.alike.proofs.refine.Given as goal
 
 abbrev pub invariant-loop-j : goal.invariant-loop-j

@@ -1,8 +1,7 @@
 -- The first x items have the same classes.
 use native.Mathlib.Omega.{arith}
 use mathlib.Core.Path.{◌≡◌, refl, sym}
-use Prim.Native.Nat.{ℕ, ◌-◌, ◌≤◌}
-use lib.ListN.{take}
+use Prim.Native.Nat.{ℕ, ◌-◌}
 use Rattle.alike.proofs.ByLevel.{one_more}
 use Rattle.alike.proofs.same_classes.Goals as goal
 

@@ -1,10 +1,7 @@
 -- The first x items have the same classes.
-use native.Mathlib.Omega.{arith}
-use mathlib.Core.Path.{◌≡◌, refl, sym}
-use Prim.Native.Nat.{ℕ, ◌-◌, ◌≤◌}
+use mathlib.Core.Path.{◌≡◌}
+use Prim.Native.Nat.{◌-◌, ◌≤◌}
 use lib.ListN.{take}
-use Rattle.alike.proofs.ByLevel.{one_more}
-use borrow.Author.Rules.{rules}
 use Rattle.alike.proofs.same_classes.Given as goal
 
 abbrev pub invariant-loop-x : goal.invariant-loop-x

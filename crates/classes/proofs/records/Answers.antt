@@ -2,9 +2,9 @@
 -- the group is the class that the item had at the level before
 use mathlib.Core.Path.{subst, ◌≡◌}
 use mathlib.Core.List.{List}
-use Prim.Native.Nat.{ℕ, ◌-◌, ◌≤◌, ◌<◌}
+use Prim.Native.Nat.{ℕ, ◌-◌}
 use native.Mathlib.Omega.{arith}
-use lib.ListN.{length, take, length-replicate}
+use lib.ListN.{take, length-replicate}
 use Rattle.meaning.specs.RegisterFile.{register_in}
 use Rattle.capped.proofs.Laws.{class_number}
 use Rattle.classes.specs.Counted.{Enters}

@@ -1,15 +1,10 @@
 -- The items below x are entered; once all are, the records are the summary's.
 -- the group is the class that the item had at the level before
-use mathlib.Core.Path.{subst, ◌≡◌}
-use mathlib.Core.List.{List}
+use mathlib.Core.Path.{◌≡◌}
 use Prim.Native.Nat.{ℕ, ◌-◌, ◌≤◌, ◌<◌}
-use native.Mathlib.Omega.{arith}
-use lib.ListN.{length, take, length-replicate}
+use lib.ListN.{length, take}
 use Rattle.meaning.specs.RegisterFile.{register_in}
-use Rattle.capped.proofs.Laws.{class_number}
-use Rattle.classes.specs.Counted.{Enters}
-use Rattle.classes.proofs.Laws.{Under, none_entered, n_items, class_small, entered_in, sorted_all}
-use borrow.Author.Rules.{rules}
+use Rattle.classes.proofs.Laws.{Under}
 use Rattle.classes.proofs.records.Given as goal
 
 abbrev pub invariant-loop-x : goal.invariant-loop-x

@@ -1,22 +1,20 @@
 -- `holds` and `neighbour_count` call each other, by way of `group_holds`: entries left, then rows left, fall. The first is the cycle's
 -- measure, the second the loop's. Each way out is a law of Laws.
 -- the arguments are q and at, and more
-use mathlib.Core.Path.{◌≡◌, refl, sym, ap, subst, ◌∙◌}
+use mathlib.Core.Path.{refl, sym, ap, subst, ◌∙◌}
 use mathlib.Core.Option.{some}
-use Prim.Native.Nat.{ℕ, ◌+◌, ◌-◌, ◌*◌, ◌/◌, ◌≤◌, ◌<◌}
+use Prim.Native.Nat.{ℕ, ◌-◌}
 use native.Mathlib.Omega.{arith}
 use lib.IntN.{ℤ}
-use lib.ListN.{length, get_or}
+use lib.ListN.{get_or}
 use Rattle.meaning.specs.Summary.{lowest_class}
 use Rattle.meaning.specs.declared.Kind.TheVariants.{Literal}
 use Rattle.meaning.specs.SummaryFile.{summary_in}
-use Rattle.entry.specs.Entries.{entry_at}
 use Rattle.entry.proofs.Laws.{is_entry, within_entry, literal_back, literal_read, least_read}
 use Rattle.question.proofs.Laws.{not_refused}
-use Rattle.reader.specs.Sized.{HasRow}
 use Rattle.header.proofs.File.{well_file}
-use Rattle.consult.specs.Consulted.{Holds, Remembers}
-use Rattle.consult.proofs.Laws.{holds_none, holds_true, holds_literal, holds_not, holds_first, holds_second, holds_unspanned, holds_least, Summed, summed_none, summed_all, counts_unasked, one_summed, sum_most, added_most, row_grouped, group_few, lowest_asked, recalled_holds, holds_kept}
+use Rattle.consult.specs.Consulted.{Holds}
+use Rattle.consult.proofs.Laws.{holds_none, holds_true, holds_literal, holds_not, holds_first, holds_second, holds_unspanned, holds_least, summed_none, summed_all, counts_unasked, one_summed, sum_most, added_most, row_grouped, group_few, lowest_asked, recalled_holds, holds_kept}
 use Rattle.memo.proofs.Laws.{spans_on}
 use borrow.Author.Rules.{rules}
 use Rattle.consult.proofs.+group_holds_holds_neighbour_count.Goals as goal

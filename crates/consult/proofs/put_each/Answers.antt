@@ -1,12 +1,10 @@
 -- The classes from `from` up to k are answered.
 use native.Mathlib.Omega.{arith}
-use mathlib.Core.Path.{◌≡◌, refl}
+use mathlib.Core.Path.{refl}
 use Prim.Native.Nat.{◌-◌, ◌<◌}
 use lib.ListN.{length, length-set}
-use Rattle.meaning.specs.SummaryFile.{summary_in}
 use Rattle.header.proofs.File.{sized_file}
-use Rattle.consult.specs.Consulted.{Remembers}
-use Rattle.consult.proofs.Laws.{Answered, one_answered, not_answered}
+use Rattle.consult.proofs.Laws.{one_answered, not_answered}
 use borrow.Author.Rules.{rules}
 use Rattle.consult.proofs.put_each.Goals as goal
 

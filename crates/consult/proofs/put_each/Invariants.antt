@@ -1,13 +1,10 @@
 -- The classes from `from` up to k are answered.
-use native.Mathlib.Omega.{arith}
-use mathlib.Core.Path.{◌≡◌, refl}
-use Prim.Native.Nat.{◌-◌, ◌<◌}
-use lib.ListN.{length, length-set}
+use mathlib.Core.Path.{◌≡◌}
+use Prim.Native.Nat.{◌-◌}
+use lib.ListN.{length}
 use Rattle.meaning.specs.SummaryFile.{summary_in}
-use Rattle.header.proofs.File.{sized_file}
 use Rattle.consult.specs.Consulted.{Remembers}
-use Rattle.consult.proofs.Laws.{Answered, one_answered, not_answered}
-use borrow.Author.Rules.{rules}
+use Rattle.consult.proofs.Laws.{Answered}
 use Rattle.consult.proofs.put_each.Given as goal
 
 abbrev pub invariant-loop-k : goal.invariant-loop-k

@@ -1,14 +1,9 @@
 -- Every class passed states the count of its items.
-use mathlib.Core.Path.{◌≡◌, refl, sym}
+use mathlib.Core.Path.{refl, sym}
 use mathlib.Core.Bool.{true}
-use Prim.Native.Nat.{ℕ, ◌-◌, ◌≤◌, ◌<◌}
+use Prim.Native.Nat.{◌-◌}
 use native.Mathlib.Omega.{arith}
 use borrow.Author.Count.{below_more}
-use lib.Dec.{eqb}
-use Rattle.meaning.specs.Count.{tally}
-use Rattle.meaning.specs.Cap.{cap}
-use Rattle.meaning.specs.Summary.{class_of, class_at}
-use Rattle.meaning.specs.SummaryFile.{summary_in}
 use Rattle.theory.proofs.CountLaws.{all_yes, all_no}
 use Rattle.lists.proofs.Laws.{told_yes, told_no}
 use Rattle.counted.proofs.Laws.{counted}

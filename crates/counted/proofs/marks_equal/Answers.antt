@@ -1,13 +1,10 @@
 -- Every item passed has the marks of its class.
-use mathlib.Core.Path.{◌≡◌, sym, ap, ◌∙◌}
+use mathlib.Core.Path.{sym, ap, ◌∙◌}
 use mathlib.Core.Bool.{true}
-use Prim.Native.Nat.{ℕ, ◌-◌, ◌≤◌, ◌<◌}
+use Prim.Native.Nat.{ℕ, ◌-◌}
 use native.Mathlib.Omega.{arith}
 use borrow.Author.Count.{below_more}
-use lib.Dec.{eqb}
-use Rattle.meaning.specs.Register.{marks_of}
-use Rattle.meaning.specs.Summary.{class_of, class_at}
-use Rattle.meaning.specs.RegisterFile.{register_in}
+use Rattle.meaning.specs.Summary.{class_of}
 use Rattle.meaning.specs.SummaryFile.{summary_in}
 use Rattle.theory.proofs.CountLaws.{all_yes, all_no}
 use Rattle.lists.proofs.Laws.{told_yes, told_no}

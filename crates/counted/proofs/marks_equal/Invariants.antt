@@ -1,16 +1,12 @@
 -- Every item passed has the marks of its class.
-use mathlib.Core.Path.{◌≡◌, sym, ap, ◌∙◌}
+use mathlib.Core.Path.{◌≡◌}
 use mathlib.Core.Bool.{true}
 use Prim.Native.Nat.{ℕ, ◌-◌, ◌≤◌, ◌<◌}
-use native.Mathlib.Omega.{arith}
-use borrow.Author.Count.{below_more}
 use lib.Dec.{eqb}
 use Rattle.meaning.specs.Register.{marks_of}
 use Rattle.meaning.specs.Summary.{class_of, class_at}
 use Rattle.meaning.specs.RegisterFile.{register_in}
 use Rattle.meaning.specs.SummaryFile.{summary_in}
-use Rattle.theory.proofs.CountLaws.{all_yes, all_no}
-use Rattle.lists.proofs.Laws.{told_yes, told_no}
 use Rattle.counted.proofs.marks_equal.Given as goal
 
 abbrev pub invariant-loop-x : goal.invariant-loop-x

@@ -1,10 +1,8 @@
 -- The classes of the items passed are written.
-use mathlib.Core.Path.{◌≡◌, refl}
-use Prim.Native.Nat.{ℕ, ◌-◌, ◌≤◌, ◌<◌}
+use mathlib.Core.Path.{refl}
+use Prim.Native.Nat.{◌-◌}
 use native.Mathlib.Omega.{arith}
-use lib.ListN.{get_or, length, length-set}
-use Rattle.meaning.specs.Summary.{class_at}
-use Rattle.meaning.specs.SummaryFile.{summary_in}
+use lib.ListN.{length-set}
 use Rattle.counted.proofs.Laws.{class_put}
 use Rattle.counted.proofs.put_classes.Goals as goal
 

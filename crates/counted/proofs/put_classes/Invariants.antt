@@ -1,11 +1,9 @@
 -- The classes of the items passed are written.
-use mathlib.Core.Path.{◌≡◌, refl}
+use mathlib.Core.Path.{◌≡◌}
 use Prim.Native.Nat.{ℕ, ◌-◌, ◌≤◌, ◌<◌}
-use native.Mathlib.Omega.{arith}
-use lib.ListN.{get_or, length, length-set}
+use lib.ListN.{get_or, length}
 use Rattle.meaning.specs.Summary.{class_at}
 use Rattle.meaning.specs.SummaryFile.{summary_in}
-use Rattle.counted.proofs.Laws.{class_put}
 use Rattle.counted.proofs.put_classes.Given as goal
 
 abbrev pub invariant-loop-x : goal.invariant-loop-x

@@ -1,21 +1,17 @@
 -- `holds` asks `reaches`, which asks `leads` link by link, which asks `holds` at the neighbour: entries left fall, and in the loop the places
 -- left. Each way out is a law of Laws.
 -- the arguments are q and at, and more
-use mathlib.Core.Path.{◌≡◌, refl, sym, ap, ◌∙◌}
+use mathlib.Core.Path.{refl, sym, ap, ◌∙◌}
 use mathlib.Core.Option.{some}
-use Prim.Native.Nat.{ℕ, ◌+◌, ◌-◌, ◌*◌, ◌/◌, ◌≤◌, ◌<◌}
+use Prim.Native.Nat.{ℕ}
 use native.Mathlib.Omega.{arith}
 use lib.IntN.{ℤ}
-use lib.ListN.{length, get_or}
-use Rattle.meaning.specs.Question.{holds as holds-in}
+use lib.ListN.{get_or}
 use Rattle.meaning.specs.declared.Kind.TheVariants.{Literal}
-use Rattle.meaning.specs.RegisterFile.{register_in}
 use Rattle.nearby.proofs.Laws.{has_link_law}
-use Rattle.entry.specs.Entries.{entry_at}
 use Rattle.entry.proofs.Laws.{is_entry, within_entry, literal_back, literal_read, least_read}
-use Rattle.memo.specs.Kept.{Remembers}
 use Rattle.memo.proofs.Laws.{spans_on, recalled_so, remembers_kept}
-use Rattle.descent.proofs.Laws.{tells_refused, tells_tired, tells_unsaid, tells_true, tells_literal, tells_not, tells_first, tells_second, tells_least, Met, met_none, met_one, met_enough, met_all, Own, own_link, cond_most, item_few, leads_other, leads_there}
+use Rattle.descent.proofs.Laws.{tells_refused, tells_tired, tells_unsaid, tells_true, tells_literal, tells_not, tells_first, tells_second, tells_least, met_none, met_one, met_enough, met_all, own_link, cond_most, item_few, leads_other, leads_there}
 use borrow.Author.Rules.{rules}
 use Rattle.descent.proofs.+holds_leads_reaches.Goals as goal
 

@@ -1,7 +1,5 @@
 -- Entry by entry.
 use native.Mathlib.Omega.{arith}
-use Prim.Native.Nat.{◌-◌, ◌/◌, ◌≤◌}
-use lib.ListN.{length}
 use Rattle.descent.proofs.asks_incoming.Goals as goal
 
 pub loop-j-init : goal.loop-j-init

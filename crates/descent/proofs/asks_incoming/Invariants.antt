@@ -1,8 +1,6 @@
 -- Entry by entry.
-use native.Mathlib.Omega.{arith}
 use Prim.Native.Nat.{◌-◌, ◌/◌, ◌≤◌}
 use lib.ListN.{length}
-use borrow.Author.Rules.{rules}
 use Rattle.descent.proofs.asks_incoming.Given as goal
 
 abbrev pub invariant-loop-j : goal.invariant-loop-j

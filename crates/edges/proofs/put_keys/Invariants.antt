@@ -1,13 +1,11 @@
 -- The keys of the links passed, and what was there behind them.
-use mathlib.Core.Path.{◌≡◌, refl}
+use mathlib.Core.Path.{◌≡◌}
 use mathlib.Core.List.{◌++◌}
 use Prim.Native.Nat.{◌-◌, ◌≤◌}
-use native.Mathlib.Omega.{arith}
-use lib.ListN.{length, take, drop, length-set}
+use lib.ListN.{length, take, drop}
 use Rattle.meaning.specs.Count.{tab}
 use Rattle.meaning.specs.Register.{link_of}
 use Rattle.meaning.specs.RegisterFile.{register_in}
-use Rattle.order.proofs.Front.{tab_none, tab_more}
 use Rattle.edges.specs.Keys.{key_of}
 use Rattle.edges.proofs.put_keys.Given as goal
 

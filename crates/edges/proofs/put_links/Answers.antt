@@ -1,11 +1,10 @@
 -- The class links still to come make them all (`Written`); there are no more of them than keys.
-use mathlib.Core.Logic.{⊎_elim}
-use mathlib.Core.Path.{◌≡◌, refl, sym, ap, ◌∙◌}
-use Prim.Native.Nat.{◌-◌, ◌≤◌, ◌<◌}
+use mathlib.Core.Path.{refl, sym, ap, ◌∙◌}
+use Prim.Native.Nat.{◌-◌, ◌<◌}
 use native.Mathlib.Omega.{arith}
 use lib.ListN.{length, take}
 use lib.Seq.{length-take-le, get_or-take}
-use Rattle.edges.proofs.Laws.{put_long, key_below, Written, written_none, written_skip, written_next, written_all}
+use Rattle.edges.proofs.Laws.{put_long, key_below, written_none, written_skip, written_next, written_all}
 use Rattle.edges.proofs.put_links.Goals as goal
 use Rattle.edges.proofs.put_links.Goals.{then-least-v, else-least-v}
 

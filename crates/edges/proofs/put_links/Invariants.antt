@@ -1,11 +1,8 @@
 -- The class links still to come make them all (`Written`); there are no more of them than keys.
-use mathlib.Core.Logic.{⊎_elim}
-use mathlib.Core.Path.{◌≡◌, refl, sym, ap, ◌∙◌}
-use Prim.Native.Nat.{◌-◌, ◌≤◌, ◌<◌}
-use native.Mathlib.Omega.{arith}
+use mathlib.Core.Path.{◌≡◌}
+use Prim.Native.Nat.{◌-◌, ◌≤◌}
 use lib.ListN.{length, take}
-use lib.Seq.{length-take-le, get_or-take}
-use Rattle.edges.proofs.Laws.{put_long, key_below, Written, written_none, written_skip, written_next, written_all}
+use Rattle.edges.proofs.Laws.{Written}
 use Rattle.edges.proofs.put_links.Given as goal
 
 abbrev pub invariant-loop-i : goal.invariant-loop-i

@@ -1,10 +1,7 @@
 -- The greatest of the first i numbers.
 use native.Mathlib.Omega.{arith}
-use mathlib.Core.Logic.{⊎_elim}
 use mathlib.Core.Path.{◌≡◌, ◌∙◌}
-use Prim.Native.Nat.{◌+◌, ◌*◌, ◌-◌, ◌≤◌}
-use Rattle.meaning.specs.Bytes.{num2}
-use Rattle.fields.specs.Places.{most}
+use Prim.Native.Nat.{◌-◌}
 use Rattle.fields.proofs.Most.{most_none, most_up, most_stays}
 use Rattle.fields.proofs.greatest.Goals as goal
 use Rattle.fields.proofs.greatest.Goals.{then-top-v, else-top-v}

@@ -1,12 +1,8 @@
 -- The greatest of the first i numbers.
-use native.Mathlib.Omega.{arith}
-use mathlib.Core.Logic.{⊎_elim}
-use mathlib.Core.Path.{◌≡◌, ◌∙◌}
+use mathlib.Core.Path.{◌≡◌}
 use Prim.Native.Nat.{◌+◌, ◌*◌, ◌-◌, ◌≤◌}
 use Rattle.meaning.specs.Bytes.{num2}
 use Rattle.fields.specs.Places.{most}
-use Rattle.fields.proofs.Most.{most_none, most_up, most_stays}
-use borrow.Author.Rules.{rules}
 use Rattle.fields.proofs.greatest.Given as goal
 
 abbrev pub invariant-loop-i : goal.invariant-loop-i

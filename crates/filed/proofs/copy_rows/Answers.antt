@@ -1,8 +1,7 @@
 -- The words below j are copied.
 use mathlib.Core.Path.{◌≡◌, ap, ◌∙◌}
-use Prim.Native.Nat.{ℕ, ◌-◌, ◌*◌, ◌≤◌}
+use Prim.Native.Nat.{ℕ, ◌-◌, ◌*◌}
 use native.Mathlib.Omega.{arith}
-use lib.ListN.{length}
 use lib.Seq.{sets}
 use Rattle.filed.specs.Copied.{copied}
 use Rattle.filed.proofs.Laws.{copied_none, copied_next}

@@ -1,12 +1,9 @@
 -- The words below j are copied.
-use mathlib.Core.Path.{◌≡◌, ap, ◌∙◌}
-use Prim.Native.Nat.{ℕ, ◌-◌, ◌*◌, ◌≤◌}
-use native.Mathlib.Omega.{arith}
+use mathlib.Core.Path.{◌≡◌}
+use Prim.Native.Nat.{◌-◌, ◌*◌, ◌≤◌}
 use lib.ListN.{length}
 use lib.Seq.{sets}
 use Rattle.filed.specs.Copied.{copied}
-use Rattle.filed.proofs.Laws.{copied_none, copied_next}
-use borrow.Author.Rules.{rules}
 use Rattle.filed.proofs.copy_rows.Given as goal
 
 abbrev pub invariant-loop-j : goal.invariant-loop-j

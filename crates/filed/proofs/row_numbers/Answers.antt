@@ -1,7 +1,6 @@
 -- The items below x are done (`Under`); once all are, the rows are the summary's.
 use mathlib.Core.Path.{◌≡◌, ap, ◌∙◌, subst}
-use mathlib.Core.Logic.{⊎_elim}
-use Prim.Native.Nat.{ℕ, ◌+◌, ◌-◌, ◌≤◌}
+use Prim.Native.Nat.{ℕ, ◌+◌, ◌-◌}
 use native.Mathlib.Omega.{arith}
 use lib.ListN.{length, take}
 use Rattle.filed.proofs.Laws.{Under, none_done, classes_long, starts_long, class_small, rise, ends, words_stand, first_turn, other_turn, all_done}

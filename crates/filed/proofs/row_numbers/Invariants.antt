@@ -1,11 +1,8 @@
 -- The items below x are done (`Under`); once all are, the rows are the summary's.
-use mathlib.Core.Path.{◌≡◌, ap, ◌∙◌, subst}
-use mathlib.Core.Logic.{⊎_elim}
-use Prim.Native.Nat.{ℕ, ◌+◌, ◌-◌, ◌≤◌}
-use native.Mathlib.Omega.{arith}
+use mathlib.Core.Path.{◌≡◌}
+use Prim.Native.Nat.{◌-◌, ◌≤◌}
 use lib.ListN.{length, take}
-use Rattle.filed.proofs.Laws.{Under, none_done, classes_long, starts_long, class_small, rise, ends, words_stand, first_turn, other_turn, all_done}
-use borrow.Author.Rules.{rules}
+use Rattle.filed.proofs.Laws.{Under}
 use Rattle.filed.proofs.row_numbers.Given as goal
 
 abbrev pub invariant-loop-x : goal.invariant-loop-x

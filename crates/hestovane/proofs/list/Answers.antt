@@ -1,6 +1,5 @@
 -- 6, then 5.
 use mathlib.Core.Path.{sym, ap, ◌∙◌}
-use borrow.Author.Tests.{not-true, not-false}
 use Rattle.question.specs.Read.{told}
 use Rattle.question.proofs.Laws.{verdict_refused}
 use Rattle.matching.proofs.Laws.{keyed_as}

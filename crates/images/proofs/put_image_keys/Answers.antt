@@ -1,16 +1,11 @@
 -- The keys of the images of the links passed, and what was there behind them.
 use mathlib.Core.Path.{◌≡◌, refl, ap, ◌∙◌}
-use mathlib.Core.List.{◌++◌}
-use Prim.Native.Nat.{◌-◌, ◌≤◌}
+use Prim.Native.Nat.{◌-◌}
 use native.Mathlib.Omega.{arith}
-use lib.ListN.{length, drop, length-set}
-use Rattle.meaning.specs.Count.{tab}
-use Rattle.meaning.specs.Register.{link_of}
+use lib.ListN.{length-set}
 use Rattle.meaning.specs.Summary.{class_at}
-use Rattle.meaning.specs.RegisterFile.{register_in}
 use Rattle.meaning.specs.SummaryFile.{summary_in}
 use Rattle.order.proofs.Front.{tab_none, tab_more}
-use Rattle.images.specs.Keys.{key_by}
 use Rattle.images.proofs.Images.{key_made}
 use Rattle.images.proofs.put_image_keys.Goals as goal
 

@@ -1,14 +1,9 @@
 -- The keys of the class links passed, and what was there behind them.
 use mathlib.Core.Path.{◌≡◌, refl}
-use mathlib.Core.List.{◌++◌}
-use Prim.Native.Nat.{◌-◌, ◌≤◌}
+use Prim.Native.Nat.{◌-◌}
 use native.Mathlib.Omega.{arith}
-use lib.ListN.{length, drop, length-set}
-use Rattle.meaning.specs.Count.{tab}
-use Rattle.meaning.specs.SummaryFile.{summary_in}
-use Rattle.reader.specs.Sized.{edge_of}
+use lib.ListN.{length-set}
 use Rattle.order.proofs.Front.{tab_none, tab_more}
-use Rattle.images.specs.Keys.{key_by}
 use Rattle.images.proofs.Images.{key_made}
 use Rattle.images.proofs.put_link_keys.Goals as goal
 

@@ -1,12 +1,9 @@
 -- From the last entry to the first: the rows from j on are known.
 use Rattle.register.proofs.Laws.{limits}
 use mathlib.Core.Path.{◌≡◌, refl}
-use Prim.Native.Nat.{◌+◌, ◌-◌, ◌/◌, ◌≤◌}
+use Prim.Native.Nat.{◌+◌, ◌-◌}
 use native.Mathlib.Omega.{arith}
-use lib.ListN.{length}
-use Rattle.meaning.specs.RegisterFile.{register_in}
 use Rattle.question.proofs.Laws.{done_not_refused}
-use Rattle.inquiry.specs.Known.{Known}
 use Rattle.inquiry.proofs.Laws.{known_none, known_from, few_entries}
 use Rattle.inquiry.proofs.fill.Goals as goal
 

@@ -5,12 +5,12 @@ use Rattle.inquiry.proofs.Laws.{writes_same}
 use mir.Syntax.{w8}
 use mir.Val.{to_z, of_z}
 use mathlib.Core.Path.{ap, ◌∙◌}
-use Prim.Native.Nat.{ℕ, ◌-◌, ◌≤◌}
+use Prim.Native.Nat.{ℕ, ◌-◌}
 use native.Mathlib.Omega.{arith}
 use Rattle.meaning.specs.Register.{marks_of}
 use Rattle.meaning.specs.Question.{shows}
 use Rattle.meaning.specs.RegisterFile.{register_in}
-use Rattle.table.proofs.Laws.{Part, part_none, part_next, part_all}
+use Rattle.table.proofs.Laws.{part_none, part_next, part_all}
 use Rattle.inquiry.proofs.put_literal.Goals as goal
 
 pub loop-x-init : goal.loop-x-init

@@ -1,16 +1,9 @@
 -- Each item of the row tells what its marks show.
-use lib.IntN.{ℤ}
-use Rattle.entry.proofs.Laws.{literal_same}
-use Rattle.inquiry.proofs.Laws.{writes_same}
-use mir.Syntax.{w8}
-use mir.Val.{to_z, of_z}
-use mathlib.Core.Path.{ap, ◌∙◌}
-use Prim.Native.Nat.{ℕ, ◌-◌, ◌≤◌}
-use native.Mathlib.Omega.{arith}
+use Prim.Native.Nat.{◌-◌, ◌≤◌}
 use Rattle.meaning.specs.Register.{marks_of}
 use Rattle.meaning.specs.Question.{shows}
 use Rattle.meaning.specs.RegisterFile.{register_in}
-use Rattle.table.proofs.Laws.{Part, part_none, part_next, part_all}
+use Rattle.table.proofs.Laws.{Part}
 use Rattle.inquiry.proofs.put_literal.Given as goal
 
 abbrev pub invariant-loop-x : goal.invariant-loop-x

@@ -2,8 +2,8 @@
 use native.Mathlib.Omega.{arith}
 use mathlib.Core.Path.{◌≡◌, refl, sym, ap, ◌∙◌}
 use mathlib.Core.Bool.{false}
-use Prim.Native.Nat.{ℕ, ◌-◌, ◌≤◌}
-use lib.ListN.{length, get_or, take}
+use Prim.Native.Nat.{ℕ, ◌-◌}
+use lib.ListN.{length, get_or}
 use Rattle.meaning.specs.Count.{those}
 use Rattle.meaning.specs.Summary.{class_at}
 use Rattle.meaning.specs.SummaryFile.{summary_in}

@@ -1,15 +1,11 @@
 -- The items before x that are on the list stand there.
-use native.Mathlib.Omega.{arith}
-use mathlib.Core.Path.{◌≡◌, refl, sym, ap, ◌∙◌}
+use mathlib.Core.Path.{◌≡◌}
 use mathlib.Core.Bool.{false}
-use Prim.Native.Nat.{ℕ, ◌-◌, ◌≤◌}
+use Prim.Native.Nat.{◌-◌, ◌≤◌}
 use lib.ListN.{length, get_or, take}
 use Rattle.meaning.specs.Count.{those}
 use Rattle.meaning.specs.Summary.{class_at}
 use Rattle.meaning.specs.SummaryFile.{summary_in}
-use Rattle.header.proofs.File.{well_file, sized_file}
-use Rattle.listed.proofs.Laws.{none_yet, at_most, class_low, next_named}
-use borrow.Author.Rules.{rules}
 use Rattle.listed.proofs.put_items.Given as goal
 
 abbrev pub invariant-loop-x : goal.invariant-loop-x

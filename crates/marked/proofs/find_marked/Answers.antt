@@ -1,13 +1,12 @@
 -- r starts the run that p stands in (`Run`), and every item passed has its answer at its own place.
 use mathlib.Core.Path.{◌≡◌, refl}
-use mathlib.Core.Logic.{⊎_elim, inl, inr}
-use Prim.Native.Nat.{ℕ, ◌-◌, ◌≤◌, ◌<◌}
+use mathlib.Core.Logic.{inl, inr}
+use Prim.Native.Nat.{◌<◌}
 use native.Mathlib.Omega.{arith}
-use lib.ListN.{length, get_or, length-set}
+use lib.ListN.{get_or, length-set}
 use Rattle.meaning.specs.Level.{first}
-use Rattle.marked.specs.Lowest.{item}
 use Rattle.marked.specs.Lowest.{same_marks}
-use Rattle.marked.proofs.Laws.{Run, run_none, run_next, store_next, all_met, item_small, led_marks}
+use Rattle.marked.proofs.Laws.{run_none, run_next, store_next, all_met, item_small, led_marks}
 use Rattle.marked.proofs.find_marked.Goals as goal
 use Rattle.marked.proofs.find_marked.Goals.{then-s-p, else-s-p}
 

@@ -1,12 +1,9 @@
 -- The front is numbered, k is how many lowest items were passed.
 use mathlib.Core.Path.{◌≡◌, refl, sym, ap, ◌∙◌}
-use mathlib.Core.List.{◌++◌}
-use mathlib.Core.Logic.{⊎_elim}
-use Prim.Native.Nat.{ℕ, ◌+◌, ◌-◌, ◌≤◌, ◌<◌}
+use Prim.Native.Nat.{ℕ, ◌+◌, ◌<◌}
 use native.Mathlib.Omega.{arith}
-use lib.ListN.{length, get_or, drop, length-set}
-use Rattle.meaning.specs.Count.{sum, tally, tab}
-use Rattle.marked.specs.Lowest.{own, number_of}
+use lib.ListN.{length, get_or, length-set}
+use Rattle.meaning.specs.Count.{sum, tab}
 use Rattle.marked.proofs.Numbered.{owns_new, owns_old, turn_new, turn_old}
 use Rattle.marked.proofs.number_firsts.Goals as goal
 use Rattle.marked.proofs.number_firsts.Goals.{then-j-i, else-j-i}

@@ -1,10 +1,7 @@
 -- The front is packed.
 use mathlib.Core.Path.{◌≡◌, refl}
-use mathlib.Core.List.{◌++◌}
-use Prim.Native.Nat.{◌-◌, ◌≤◌}
 use native.Mathlib.Omega.{arith}
-use lib.ListN.{length, get_or, drop, length-set}
-use Rattle.meaning.specs.Count.{tab}
+use lib.ListN.{get_or, length-set}
 use Rattle.order.proofs.Front.{tab_none, tab_more}
 use Rattle.marked.specs.Lowest.{pack}
 use Rattle.marked.proofs.put_marks.Goals as goal

@@ -1,11 +1,9 @@
 -- The front is packed.
-use mathlib.Core.Path.{◌≡◌, refl}
+use mathlib.Core.Path.{◌≡◌}
 use mathlib.Core.List.{◌++◌}
 use Prim.Native.Nat.{◌-◌, ◌≤◌}
-use native.Mathlib.Omega.{arith}
-use lib.ListN.{length, get_or, drop, length-set}
+use lib.ListN.{length, get_or, drop}
 use Rattle.meaning.specs.Count.{tab}
-use Rattle.order.proofs.Front.{tab_none, tab_more}
 use Rattle.marked.specs.Lowest.{pack}
 use Rattle.marked.proofs.put_marks.Given as goal
 

@@ -1,13 +1,9 @@
 -- The marks of x items are read.
-use native.Mathlib.Omega.{arith}
-use mathlib.Core.Path.{◌≡◌, refl}
+use mathlib.Core.Path.{◌≡◌}
 use Prim.Native.Nat.{ℕ, ◌-◌, ◌≤◌, ◌<◌}
-use lib.ListN.{length, get_or, length-set}
+use lib.ListN.{length, get_or}
 use Rattle.meaning.specs.Register.{marks_of}
 use Rattle.meaning.specs.RegisterFile.{register_in}
-use Rattle.register.proofs.Laws.{few_items}
-use Rattle.order.proofs.Front.{filled_next}
-use borrow.Author.Rules.{rules}
 use Rattle.marked.proofs.read_marks.Given as goal
 
 abbrev pub invariant-loop-x : goal.invariant-loop-x

@@ -1,10 +1,9 @@
 -- The keys that j class links ask for are written.
 use native.Mathlib.Omega.{arith}
 use mathlib.Core.Path.{◌≡◌, refl}
-use Prim.Native.Nat.{◌-◌, ◌≤◌}
+use Prim.Native.Nat.{◌-◌}
 use lib.ListN.{length, length-set}
 use Rattle.meaning.specs.SummaryFile.{summary_in}
-use Rattle.lists.specs.Writes.{Writes}
 use Rattle.lists.proofs.Laws.{writes_none, writes_next}
 use Rattle.matching.specs.Keys.{asked_key}
 use Rattle.matching.proofs.put_asked.Goals as goal

@@ -1,11 +1,9 @@
 -- The keys that j class links ask for are written.
-use native.Mathlib.Omega.{arith}
-use mathlib.Core.Path.{◌≡◌, refl}
+use mathlib.Core.Path.{◌≡◌}
 use Prim.Native.Nat.{◌-◌, ◌≤◌}
-use lib.ListN.{length, length-set}
+use lib.ListN.{length}
 use Rattle.meaning.specs.SummaryFile.{summary_in}
 use Rattle.lists.specs.Writes.{Writes}
-use Rattle.lists.proofs.Laws.{writes_none, writes_next}
 use Rattle.matching.specs.Keys.{asked_key}
 use Rattle.matching.proofs.put_asked.Given as goal
 

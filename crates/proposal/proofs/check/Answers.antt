@@ -1,7 +1,6 @@
 -- The parts in their order; each that fails decides.
 use mathlib.Core.Path.{sym, ◌∙◌}
 use native.Mathlib.Omega.{arith}
-use borrow.Author.Tests.{not-true, not-false}
 use Rattle.header.proofs.File.{well_file}
 use Rattle.header.proofs.Proposed.{proposed}
 use Rattle.rowwise.proofs.Window.{searched}

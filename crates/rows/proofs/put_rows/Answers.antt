@@ -1,13 +1,11 @@
 -- There is a number below which all keys are done (`Done`), at most the present item's first key.
 use mathlib.Core.Path.{◌≡◌, refl, ap}
-use mathlib.Core.List.{◌++◌}
-use Prim.Native.Nat.{ℕ, ◌+◌, ◌-◌, ◌*◌, ◌%◌, ◌≤◌, ◌<◌}
+use Prim.Native.Nat.{ℕ, ◌+◌, ◌*◌, ◌%◌, ◌<◌}
 use native.Mathlib.Omega.{arith}
-use lib.ListN.{length, drop, length-set}
-use Rattle.meaning.specs.Count.{tab}
+use lib.ListN.{length-set}
 use Rattle.order.proofs.Front.{tab_none, tab_more}
 use Rattle.rows.specs.Rows.{start_of}
-use Rattle.rows.proofs.Laws.{Done, done_none, done_row, done_item, done_all, not_past}
+use Rattle.rows.proofs.Laws.{done_none, done_row, done_item, done_all, not_past}
 use Rattle.rows.proofs.put_rows.Goals as goal
 
 pub loop-x-init : goal.loop-x-init

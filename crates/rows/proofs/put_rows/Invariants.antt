@@ -1,13 +1,11 @@
 -- There is a number below which all keys are done (`Done`), at most the present item's first key.
-use mathlib.Core.Path.{◌≡◌, refl, ap}
+use mathlib.Core.Path.{◌≡◌}
 use mathlib.Core.List.{◌++◌}
-use Prim.Native.Nat.{ℕ, ◌+◌, ◌-◌, ◌*◌, ◌%◌, ◌≤◌, ◌<◌}
-use native.Mathlib.Omega.{arith}
-use lib.ListN.{length, drop, length-set}
+use Prim.Native.Nat.{ℕ, ◌+◌, ◌-◌, ◌≤◌}
+use lib.ListN.{length, drop}
 use Rattle.meaning.specs.Count.{tab}
-use Rattle.order.proofs.Front.{tab_none, tab_more}
 use Rattle.rows.specs.Rows.{start_of}
-use Rattle.rows.proofs.Laws.{Done, done_none, done_row, done_item, done_all, not_past}
+use Rattle.rows.proofs.Laws.{Done}
 use Rattle.rows.proofs.put_rows.Given as goal
 
 abbrev pub invariant-loop-x : goal.invariant-loop-x

@@ -1,11 +1,8 @@
 -- All keys from p to q are the same, and `count` is how many they are, capped.
-use mathlib.Core.Path.{◌≡◌, refl, sym, ◌∙◌}
+use mathlib.Core.Path.{◌≡◌}
 use Prim.Native.Nat.{ℕ, ◌-◌, ◌≤◌, ◌<◌}
-use native.Mathlib.Omega.{arith}
 use lib.ListN.{get_or}
 use Rattle.meaning.specs.Cap.{cap}
-use Rattle.rows.proofs.Laws.{same_first, same_next}
-use borrow.Author.Rules.{rules}
 use Rattle.rows.proofs.run_from.Given as goal
 
 abbrev pub invariant-loop-q : goal.invariant-loop-q

@@ -1,12 +1,10 @@
 -- Every item passed has the rows of its class.
-use mathlib.Core.Path.{◌≡◌, sym, ap, ◌∙◌}
+use mathlib.Core.Path.{sym, ap, ◌∙◌}
 use mathlib.Core.Bool.{true}
-use Prim.Native.Nat.{ℕ, ◌+◌, ◌-◌, ◌≤◌, ◌<◌}
+use Prim.Native.Nat.{ℕ, ◌+◌, ◌-◌}
 use native.Mathlib.Omega.{arith}
 use borrow.Author.Count.{below_more}
-use borrow.Author.Tests.{not-true, not-false}
 use lib.ListN.{get_or}
-use Rattle.meaning.specs.Summary.{class_at}
 use Rattle.meaning.specs.SummaryFile.{summary_in}
 use Rattle.theory.proofs.CountLaws.{all_yes, all_no}
 use Rattle.rowwise.specs.Rows.{class_rows, same_words}

@@ -1,10 +1,8 @@
 -- The groups of the items passed, and what was there behind them.
 use mathlib.Core.Path.{◌≡◌, refl, ap, ◌∙◌}
-use mathlib.Core.List.{◌++◌}
-use Prim.Native.Nat.{ℕ, ◌-◌, ◌≤◌}
+use Prim.Native.Nat.{ℕ, ◌-◌}
 use native.Mathlib.Omega.{arith}
-use lib.ListN.{length, drop, length-set}
-use Rattle.meaning.specs.Count.{tab}
+use lib.ListN.{length-set}
 use Rattle.meaning.specs.Summary.{class_of, group_at}
 use Rattle.meaning.specs.SummaryFile.{summary_in}
 use Rattle.order.proofs.Front.{tab_none, tab_more}

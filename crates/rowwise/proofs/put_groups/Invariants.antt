@@ -1,13 +1,11 @@
 -- The groups of the items passed, and what was there behind them.
-use mathlib.Core.Path.{◌≡◌, refl, ap, ◌∙◌}
+use mathlib.Core.Path.{◌≡◌}
 use mathlib.Core.List.{◌++◌}
-use Prim.Native.Nat.{ℕ, ◌-◌, ◌≤◌}
-use native.Mathlib.Omega.{arith}
-use lib.ListN.{length, drop, length-set}
+use Prim.Native.Nat.{◌-◌, ◌≤◌}
+use lib.ListN.{length, drop}
 use Rattle.meaning.specs.Count.{tab}
-use Rattle.meaning.specs.Summary.{class_of, group_at}
+use Rattle.meaning.specs.Summary.{group_at}
 use Rattle.meaning.specs.SummaryFile.{summary_in}
-use Rattle.order.proofs.Front.{tab_none, tab_more}
 use Rattle.rowwise.proofs.put_groups.Given as goal
 
 abbrev pub invariant-loop-x : goal.invariant-loop-x

@@ -1,15 +1,10 @@
 -- Every word passed is that of its row.
-use mathlib.Core.Path.{◌≡◌, refl, sym}
+use mathlib.Core.Path.{refl, sym}
 use mathlib.Core.Bool.{true}
-use Prim.Native.Nat.{ℕ, ◌+◌, ◌-◌, ◌≤◌, ◌<◌}
+use Prim.Native.Nat.{◌-◌}
 use native.Mathlib.Omega.{arith}
 use borrow.Author.Count.{below_more}
-use lib.Dec.{eqb}
-use lib.ListN.{get_or}
-use Rattle.meaning.specs.Summary.{row_of}
-use Rattle.meaning.specs.SummaryFile.{summary_in}
 use Rattle.theory.proofs.CountLaws.{all_yes, all_no}
-use Rattle.surround.specs.Surroundings.{word_of}
 use Rattle.lists.proofs.Laws.{told_yes, told_no}
 use Rattle.rowwise.proofs.words_equal.Goals as goal
 

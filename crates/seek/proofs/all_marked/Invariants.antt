@@ -1,12 +1,8 @@
 -- Every mark passed is set.
-use mathlib.Core.Path.{◌≡◌, sym}
+use mathlib.Core.Path.{◌≡◌}
 use mathlib.Core.Bool.{true, false}
 use Prim.Native.Nat.{ℕ, ◌-◌, ◌≤◌, ◌<◌}
-use native.Mathlib.Omega.{arith}
-use borrow.Author.Tests.{not-true, not-false}
-use borrow.Author.Count.{below_more}
 use lib.ListN.{get_or}
-use Rattle.theory.proofs.CountLaws.{all_yes, all_no}
 use Rattle.seek.proofs.all_marked.Given as goal
 
 abbrev pub invariant-loop-i : goal.invariant-loop-i

@@ -1,9 +1,8 @@
 -- The keys before low are less than the key, and none from high on is.
-use Prim.Native.Nat.{◌+◌, ◌-◌, ◌/◌, ◌≤◌, ◌<◌}
+use Prim.Native.Nat.{◌+◌, ◌-◌, ◌/◌, ◌<◌}
 use native.Mathlib.Omega.{arith}
 use lib.ListN.{length, take}
 use lib.Seq.{length-take-le, get_or-take}
-use Rattle.seek.specs.Keys.{Parted}
 use Rattle.seek.proofs.Laws.{parted_up, parted_down, parted_stands}
 use Rattle.seek.proofs.halve.Goals as goal
 

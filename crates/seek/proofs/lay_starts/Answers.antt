@@ -1,11 +1,11 @@
 -- The starts of the classes below c are laid, and the i keys passed are of those classes.
 use mathlib.Core.Path.{◌≡◌, refl, sym}
-use Prim.Native.Nat.{◌+◌, ◌-◌, ◌≤◌, ◌<◌}
+use Prim.Native.Nat.{◌≤◌, ◌<◌}
 use native.Mathlib.Omega.{arith}
 use lib.ListN.{length, take, get_or, length-set}
 use lib.Seq.{length-take-le, get_or-take}
 use Rattle.seek.specs.Keys.{key_class}
-use Rattle.seek.proofs.Laws.{Begun, class_most, begun_none, begun_pass, begun_lay, begun_laid}
+use Rattle.seek.proofs.Laws.{class_most, begun_none, begun_pass, begun_lay, begun_laid}
 use Rattle.seek.proofs.lay_starts.Goals as goal
 
 pub loop-i-init : goal.loop-i-init

@@ -1,15 +1,11 @@
 -- Every number passed is a key, and the marks stand at those keys.
-use mathlib.Core.Path.{◌≡◌, refl, sym, ◌∙◌}
-use mathlib.Core.Bool.{true, false≢true}
+use mathlib.Core.Path.{◌≡◌}
+use mathlib.Core.Bool.{true}
 use Prim.Native.Nat.{ℕ, ◌-◌, ◌≤◌, ◌<◌}
-use native.Mathlib.Omega.{arith}
-use borrow.Author.Tests.{not-true, not-false}
-use borrow.Author.Count.{below_more}
 use lib.Dec.{eqb}
 use lib.ListN.{length, take, get_or}
 use Rattle.meaning.specs.Count.{any}
 use Rattle.seek.specs.Keys.{Marks}
-use Rattle.seek.proofs.Laws.{marks_none, marks_next, first_yes, first_no}
 use Rattle.seek.proofs.mark_all.Given as goal
 
 abbrev pub invariant-loop-j : goal.invariant-loop-j

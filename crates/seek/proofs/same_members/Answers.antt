@@ -3,7 +3,6 @@ use mathlib.Core.Path.{sym, ◌∙◌}
 use mathlib.Core.Bool.{false}
 use native.Mathlib.Omega.{arith}
 use borrow.Author.Rules.{rules}
-use borrow.Author.Tests.{not-true, not-false}
 use lib.ListN.{take, get_or-replicate}
 use Rattle.seek.proofs.Laws.{members, members_no}
 use Rattle.seek.proofs.same_members.Goals as goal

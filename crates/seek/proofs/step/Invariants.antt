@@ -1,12 +1,7 @@
 -- The keys before the place are less than the key.
-use Prim.Native.Nat.{◌-◌, ◌≤◌, ◌<◌}
-use native.Mathlib.Omega.{arith}
-use borrow.Author.Rules.{rules}
-use mathlib.Core.Path.{refl}
-use lib.ListN.{length, take}
-use lib.Seq.{length-take-le, get_or-take}
+use Prim.Native.Nat.{◌-◌, ◌≤◌}
+use lib.ListN.{take}
 use Rattle.seek.specs.Keys.{Parted}
-use Rattle.seek.proofs.Laws.{parted_up, parted_down, parted_stands}
 use Rattle.seek.proofs.step.Given as goal
 
 abbrev pub invariant-loop-at : goal.invariant-loop-at

@@ -1,14 +1,11 @@
 -- r starts the run that p stands in (`Run`), and every item passed has its answer at its own place.
-use mathlib.Core.Path.{◌≡◌, refl, ◌∙◌}
+use mathlib.Core.Path.{◌≡◌}
 use Prim.Native.Nat.{ℕ, ◌-◌, ◌≤◌, ◌<◌}
-use mathlib.Core.Logic.{⊎_elim, inl, inr}
-use native.Mathlib.Omega.{arith}
-use lib.ListN.{length, get_or, length-set}
+use lib.ListN.{length, get_or}
 use Rattle.meaning.specs.Level.{first}
 use Rattle.marked.specs.Lowest.{item}
-use Rattle.signature.specs.Signature.{alike_sig, hash_sig}
-use Rattle.marked.proofs.Laws.{Run, run_none, run_next, store_next, all_met, item_small}
-use Rattle.signature.proofs.Laws.{led}
+use Rattle.signature.specs.Signature.{alike_sig}
+use Rattle.marked.proofs.Laws.{Run}
 use Rattle.signature.proofs.find_firsts.Given as goal
 
 abbrev pub invariant-loop-p : goal.invariant-loop-p

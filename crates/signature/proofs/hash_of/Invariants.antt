@@ -1,10 +1,8 @@
 -- h is the hash of the group and j words.
-use mathlib.Core.Path.{◌≡◌, refl, ◌∙◌}
-use Prim.Native.Nat.{◌+◌, ◌-◌, ◌≤◌, ◌<◌}
-use native.Mathlib.Omega.{arith}
+use mathlib.Core.Path.{◌≡◌}
+use Prim.Native.Nat.{◌-◌, ◌≤◌, ◌<◌}
 use lib.ListN.{get_or}
-use Rattle.signature.specs.Signature.{size, mix, hashed, hash_sig}
-use Rattle.signature.proofs.Laws.{hashed_next, word_at}
+use Rattle.signature.specs.Signature.{size, mix, hashed}
 use Rattle.signature.proofs.hash_of.Given as goal
 
 abbrev pub invariant-loop-j : goal.invariant-loop-j

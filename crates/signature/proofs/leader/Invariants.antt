@@ -1,12 +1,9 @@
 -- The search from q on gives what the search from r on does.
-use mathlib.Core.Path.{◌≡◌, refl, sym, ap, ◌∙◌}
-use mathlib.Core.Bool.{Bool, true, false}
-use Prim.Native.Nat.{ℕ, ◌-◌, ◌≤◌}
-use native.Mathlib.Omega.{arith}
+use mathlib.Core.Path.{◌≡◌}
+use Prim.Native.Nat.{◌-◌, ◌≤◌}
 use Rattle.meaning.specs.Count.{seek}
 use Rattle.marked.specs.Lowest.{item}
 use Rattle.signature.specs.Signature.{alike_sig}
-use Rattle.order.proofs.Front.{seek_found, seek_next, seek_over}
 use Rattle.signature.proofs.leader.Given as goal
 
 abbrev pub invariant-loop-q : goal.invariant-loop-q

@@ -1,10 +1,8 @@
 -- The front is packed.
 use mathlib.Core.Path.{◌≡◌, refl, ap}
-use mathlib.Core.List.{◌++◌}
-use Prim.Native.Nat.{ℕ, ◌+◌, ◌-◌, ◌*◌, ◌≤◌}
+use Prim.Native.Nat.{ℕ, ◌+◌, ◌-◌, ◌*◌}
 use native.Mathlib.Omega.{arith}
-use lib.ListN.{length, drop, length-set}
-use Rattle.meaning.specs.Count.{tab}
+use lib.ListN.{length-set}
 use Rattle.marked.specs.Lowest.{pack}
 use Rattle.signature.specs.Signature.{hash_sig}
 use Rattle.order.proofs.Front.{tab_none, tab_more}

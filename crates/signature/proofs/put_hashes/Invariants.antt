@@ -1,13 +1,11 @@
 -- The front is packed.
-use mathlib.Core.Path.{◌≡◌, refl, ap}
+use mathlib.Core.Path.{◌≡◌}
 use mathlib.Core.List.{◌++◌}
-use Prim.Native.Nat.{ℕ, ◌+◌, ◌-◌, ◌*◌, ◌≤◌}
-use native.Mathlib.Omega.{arith}
-use lib.ListN.{length, drop, length-set}
+use Prim.Native.Nat.{◌+◌, ◌-◌, ◌≤◌}
+use lib.ListN.{length, drop}
 use Rattle.meaning.specs.Count.{tab}
 use Rattle.marked.specs.Lowest.{pack}
 use Rattle.signature.specs.Signature.{hash_sig}
-use Rattle.order.proofs.Front.{tab_none, tab_more}
 use Rattle.signature.proofs.put_hashes.Given as goal
 
 abbrev pub invariant-loop-x : goal.invariant-loop-x

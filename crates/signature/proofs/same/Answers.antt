@@ -1,9 +1,8 @@
 -- j words are the same.
 use mathlib.Core.Path.{◌≡◌, refl, sym}
 use mathlib.Core.Bool.{true}
-use Prim.Native.Nat.{◌+◌, ◌-◌, ◌≤◌}
+use Prim.Native.Nat.{◌+◌, ◌-◌}
 use native.Mathlib.Omega.{arith}
-use lib.ListN.{get_or}
 use lib.Dec.{eqb}
 use Rattle.meaning.specs.Count.{all}
 use Rattle.order.proofs.Front.{all_next}

@@ -1,15 +1,11 @@
 -- j words are the same.
-use mathlib.Core.Path.{◌≡◌, refl, sym}
+use mathlib.Core.Path.{◌≡◌}
 use mathlib.Core.Bool.{true}
-use Prim.Native.Nat.{◌+◌, ◌-◌, ◌≤◌}
-use native.Mathlib.Omega.{arith}
+use Prim.Native.Nat.{◌-◌, ◌≤◌}
 use lib.ListN.{get_or}
 use lib.Dec.{eqb}
 use Rattle.meaning.specs.Count.{all}
-use Rattle.order.proofs.Front.{all_next}
-use borrow.Author.Tests.{eq-eqb}
 use Rattle.signature.specs.Signature.{size, word}
-use Rattle.signature.proofs.Laws.{sig_yes, sig_no1, sig_no2, sig_no3}
 use Rattle.signature.proofs.same.Given as goal
 
 abbrev pub invariant-loop-j : goal.invariant-loop-j

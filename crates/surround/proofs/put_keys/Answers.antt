@@ -1,13 +1,8 @@
 -- The keys of k links are written.
 use native.Mathlib.Omega.{arith}
 use mathlib.Core.Path.{◌≡◌, refl}
-use Prim.Native.Nat.{◌-◌, ◌≤◌}
-use lib.ListN.{length, length-set}
-use Rattle.meaning.specs.Register.{link_of}
-use Rattle.meaning.specs.RegisterFile.{register_in}
-use Rattle.lists.specs.Writes.{Writes}
+use lib.ListN.{length-set}
 use Rattle.lists.proofs.Laws.{writes_none, writes_next}
-use Rattle.surround.specs.Surroundings.{key_of}
 use Rattle.surround.proofs.put_keys.Goals as goal
 
 pub loop-k-init : goal.loop-k-init

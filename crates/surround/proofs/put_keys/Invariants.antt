@@ -1,14 +1,11 @@
 -- The keys of k links are written.
-use native.Mathlib.Omega.{arith}
-use mathlib.Core.Path.{◌≡◌, refl}
+use mathlib.Core.Path.{◌≡◌}
 use Prim.Native.Nat.{◌-◌, ◌≤◌}
-use lib.ListN.{length, length-set}
+use lib.ListN.{length}
 use Rattle.meaning.specs.Register.{link_of}
 use Rattle.meaning.specs.RegisterFile.{register_in}
 use Rattle.lists.specs.Writes.{Writes}
-use Rattle.lists.proofs.Laws.{writes_none, writes_next}
 use Rattle.surround.specs.Surroundings.{key_of}
-use borrow.Author.Rules.{rules}
 use Rattle.surround.proofs.put_keys.Given as goal
 
 abbrev pub invariant-loop-k : goal.invariant-loop-k

@@ -1,16 +1,13 @@
 -- The first k classes are in range, and their groups are marked.
 use native.Mathlib.Omega.{arith}
-use mathlib.Core.Path.{◌≡◌, sym, ◌∙◌}
+use mathlib.Core.Path.{sym, ◌∙◌}
 use mathlib.Core.Bool.{true, false}
-use Prim.Native.Nat.{ℕ, ◌-◌, ◌≤◌, ◌<◌}
-use lib.ListN.{length, length-set, length-replicate, get_or-replicate}
-use borrow.Author.Tests.{not-true, not-false}
+use Prim.Native.Nat.{◌-◌}
+use lib.ListN.{length-set, length-replicate, get_or-replicate}
 use borrow.Author.Count.{below_more}
-use Rattle.meaning.specs.Summary.{class_of}
-use Rattle.meaning.specs.WellFormed.{class_in}
 use Rattle.meaning.specs.SummaryFile.{summary_in}
 use Rattle.theory.proofs.ShapeLaws.{class_group}
-use Rattle.wellformed.proofs.Loops.{Marked, none_marked, one_marked, classes_by, class_out, groups_many}
+use Rattle.wellformed.proofs.Loops.{none_marked, one_marked, classes_by, class_out, groups_many}
 use Rattle.wellformed.proofs.classes_fine.Goals as goal
 
 pub classes-c-requires : goal.classes-c-requires

@@ -1,6 +1,5 @@
 -- The offsets and the length, the sizes, the ranges; then the parts.
 use mathlib.Core.Path.{sym, ◌∙◌}
-use borrow.Author.Tests.{not-true, not-false}
 use Rattle.meaning.specs.SummaryFile.{summary_in}
 use Rattle.header.proofs.File.{not_exact, when_exact, sized_of}
 use Rattle.wellformed.proofs.Laws.{no_sizes, no_range, ranged}

@@ -1,6 +1,5 @@
 -- Classes, rows, class links, map; and then rows and class links beside one another.
 use mathlib.Core.Path.{sym, ◌∙◌}
-use borrow.Author.Tests.{not-true, not-false}
 use Rattle.wellformed.proofs.Laws.{groups_low, rows_ascend, no_classes, no_rows, no_links, no_map, are_numbers, by_match}
 use Rattle.matching.proofs.Laws.{keyed_no, keyed_as}
 use borrow.Author.Rules.{rules}

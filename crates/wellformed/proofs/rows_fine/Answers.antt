@@ -1,17 +1,15 @@
 -- The first j rows are in range and ascend, and their keys are kept: `least` is the least key that the next may have.
 use native.Mathlib.Omega.{arith}
-use mathlib.Core.Path.{◌≡◌, refl, sym, ◌∙◌}
+use mathlib.Core.Path.{refl, sym, ◌∙◌}
 use mathlib.Core.Bool.{true}
-use Prim.Native.Nat.{ℕ, ◌-◌, ◌≤◌, ◌<◌}
-use lib.ListN.{length, get_or, length-set}
+use Prim.Native.Nat.{◌-◌}
+use lib.ListN.{length-set}
 use Rattle.reader.specs.Sized.{HasRow}
 use Rattle.reader.proofs.Laws.{laid}
 use Rattle.fields.proofs.Laws.{row_read, key_read, row_room}
-use borrow.Author.Tests.{not-true, not-false}
 use borrow.Author.Count.{below_more}
-use Rattle.theory.proofs.CountLaws.{past}
 use Rattle.meaning.specs.SummaryFile.{summary_in}
-use Rattle.wellformed.proofs.Loops.{key, row_rises, row_out, row_falls, row_rises_law, rows_all, past_none, past_next, keys_kept, key_set}
+use Rattle.wellformed.proofs.Loops.{row_out, row_falls, row_rises_law, rows_all, past_none, past_next, keys_kept, key_set}
 use Rattle.matching.proofs.Laws.{keyed_no}
 use Rattle.wellformed.proofs.rows_fine.Goals as goal
 

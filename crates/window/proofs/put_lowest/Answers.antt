@@ -1,11 +1,10 @@
 -- Of the classes passed, the lowest of each group is entered.
-use mathlib.Core.Path.{◌≡◌, ◌∙◌}
-use Prim.Native.Nat.{◌-◌, ◌≤◌}
+use mathlib.Core.Path.{◌∙◌}
+use Prim.Native.Nat.{◌-◌}
 use native.Mathlib.Omega.{arith}
-use lib.ListN.{length, length-set}
-use Rattle.meaning.specs.SummaryFile.{summary_in}
+use lib.ListN.{length-set}
 use Rattle.header.proofs.File.{well_file}
-use Rattle.window.proofs.Lowest.{Entered, none_entered, one_entered, all_entered, class_low}
+use Rattle.window.proofs.Lowest.{none_entered, one_entered, all_entered, class_low}
 use Rattle.window.proofs.put_lowest.Goals as goal
 
 pub classes-c-requires : goal.classes-c-requires

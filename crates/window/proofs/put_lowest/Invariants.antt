@@ -1,12 +1,9 @@
 -- Of the classes passed, the lowest of each group is entered.
-use mathlib.Core.Path.{◌≡◌, ◌∙◌}
+use mathlib.Core.Path.{◌≡◌}
 use Prim.Native.Nat.{◌-◌, ◌≤◌}
-use native.Mathlib.Omega.{arith}
-use lib.ListN.{length, length-set}
+use lib.ListN.{length}
 use Rattle.meaning.specs.SummaryFile.{summary_in}
-use Rattle.header.proofs.File.{well_file}
-use Rattle.window.proofs.Lowest.{Entered, none_entered, one_entered, all_entered, class_low}
-use borrow.Author.Rules.{rules}
+use Rattle.window.proofs.Lowest.{Entered}
 use Rattle.window.proofs.put_lowest.Given as goal
 
 abbrev pub invariant-loop-passed : goal.invariant-loop-passed
