@@ -32,18 +32,14 @@ find_firsts-requires c =
 
 pub number_firsts-requires : goal.number_firsts-requires
 number_firsts-requires c =
-    let s =
-    c in
-    let a = s.args in
+    let a = c.args in
     let like = alike_sig a.groups.now a.starts.now a.rows.now in
     let eq = sig_equivalence a.groups.now a.starts.now a.rows.now in
     (omega (arith, c.requires), omega (arith, c.requires), omega (arith, c.requires.0.few), lows like eq _ a.n c.find_firsts.ensures)
 
 pub returns : goal.returns
 returns c =
-    let s =
-    c in
-    let a = s.args in
+    let a = c.args in
     let like = alike_sig a.groups.now a.starts.now a.rows.now in
     let eq = sig_equivalence a.groups.now a.starts.now a.rows.now in
     let e = c.find_firsts.ensures in
