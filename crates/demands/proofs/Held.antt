@@ -3,7 +3,7 @@
 -- program logic: to read an element of a `&[u8]` shows that it fits.
 use mathlib.Core.Path.{◌≡◌, refl}
 use mathlib.Core.Logic.{∥∥₁_elim}
-use mathlib.Core.List.{List, ◌∷◌}
+use mathlib.Core.List.{List, [], ◌∷◌}
 use Prim.Native.Nat.{ℕ, zero, suc, ◌<◌}
 use native.Mathlib.Omega.{arith}
 use native.Mathlib.Bridge.{le_prop}

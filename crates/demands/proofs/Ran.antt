@@ -3,7 +3,7 @@
 -- checker sees to it. Leans on each function's theorem and on the program logic's adequacy.
 use mathlib.Core.Path.{◌≡◌, refl}
 use mathlib.Core.Logic.{∥∥₁_elim, ∥∥₁_prop, ∥∥₁_map}
-use mathlib.Core.List.{List}
+use mathlib.Core.List.{List, []}
 use Prim.Native.Nat.{ℕ}
 use mir.Val.{Val}
 use base.Logic.{ent, sep, ex, via, fst∗, snd∗, mono_l}

@@ -1,6 +1,6 @@
 -- The bytes of a summary are the bytes of its numbers, and five parts written one behind the other are one list. Leans on wire's Sets.
 use mathlib.Core.Path.{◌≡◌, refl, sym, ap, ap₂, ◌∙◌}
-use mathlib.Core.List.{List, ◌∷◌, ◌++◌, append-nil, append_assoc}
+use mathlib.Core.List.{List, [], ◌∷◌, ◌++◌, append-nil, append_assoc}
 use Prim.Native.Nat.{ℕ, ◌+◌, ◌*◌, ◌≤◌}
 use native.Mathlib.Omega.{arith}
 use lib.ListN.{length, take, length-append}

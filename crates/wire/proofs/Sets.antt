@@ -1,7 +1,7 @@
 -- What a write leaves of a lent buffer, for every crate that writes: parts one after another, records one after another, and a
 -- whole answer at the front. `sets d at p` is d with p written over it from place at. Leans on lib.Seq and on meaning's Bytes.
 use mathlib.Core.Path.{◌≡◌, refl, sym, ap, ◌∙◌}
-use mathlib.Core.List.{List, ◌∷◌, ◌++◌, append_assoc, append-nil}
+use mathlib.Core.List.{List, [], ◌∷◌, ◌++◌, append_assoc, append-nil}
 use Prim.Native.Nat.{ℕ, zero, suc, ◌+◌, ◌*◌, ◌≤◌}
 use native.Mathlib.Omega.{arith}
 use native.Mathlib.Nat.{add-zero, suc-add, add-suc}

@@ -1,5 +1,6 @@
 -- Entry by entry.
 use native.Mathlib.Omega.{arith}
+use Prim.Native.Nat.{◌-◌}
 use Rattle.descent.proofs.asks_incoming.Goals as goal
 
 pub loop-j-init : goal.loop-j-init

@@ -1,7 +1,7 @@
 -- r starts the run that p stands in (`Run`), and every item passed has its answer at its own place.
 use mathlib.Core.Path.{◌≡◌, refl}
 use mathlib.Core.Logic.{inl, inr}
-use Prim.Native.Nat.{◌<◌}
+use Prim.Native.Nat.{◌-◌, ◌<◌}
 use native.Mathlib.Omega.{arith}
 use lib.ListN.{get_or, length-set}
 use Rattle.meaning.specs.Level.{first}

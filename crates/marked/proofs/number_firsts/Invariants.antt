@@ -1,7 +1,7 @@
 -- The front is numbered, k is how many lowest items were passed.
 use mathlib.Core.Path.{◌≡◌}
 use mathlib.Core.List.{◌++◌}
-use Prim.Native.Nat.{◌-◌, ◌≤◌}
+use Prim.Native.Nat.{◌+◌, ◌-◌, ◌≤◌}
 use lib.ListN.{length, drop}
 use Rattle.meaning.specs.Count.{tally, tab}
 use Rattle.marked.specs.Lowest.{own, number_of}

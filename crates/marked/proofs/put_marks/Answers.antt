@@ -1,5 +1,6 @@
 -- The front is packed.
 use mathlib.Core.Path.{◌≡◌, refl}
+use Prim.Native.Nat.{◌-◌}
 use native.Mathlib.Omega.{arith}
 use lib.ListN.{get_or, length-set}
 use Rattle.order.proofs.Front.{tab_none, tab_more}

@@ -1,6 +1,7 @@
 -- The marks of x items are read.
 use native.Mathlib.Omega.{arith}
 use mathlib.Core.Path.{refl}
+use Prim.Native.Nat.{◌-◌}
 use lib.ListN.{length-set}
 use Rattle.meaning.specs.Register.{marks_of}
 use Rattle.meaning.specs.RegisterFile.{register_in}

@@ -1,5 +1,6 @@
 -- All keys from p to q are the same, and `count` is how many they are, capped.
 use mathlib.Core.Path.{refl, sym, ◌∙◌}
+use Prim.Native.Nat.{◌-◌}
 use native.Mathlib.Omega.{arith}
 use Rattle.rows.proofs.Laws.{same_first, same_next}
 use Rattle.rows.proofs.run_from.Goals as goal

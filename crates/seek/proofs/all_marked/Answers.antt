@@ -1,6 +1,7 @@
 -- Every mark passed is set.
 use mathlib.Core.Path.{sym}
-use mathlib.Core.Bool.{false}
+use mathlib.Core.Bool.{true, false}
+use Prim.Native.Nat.{◌-◌}
 use native.Mathlib.Omega.{arith}
 use borrow.Author.Count.{below_more}
 use lib.ListN.{get_or}

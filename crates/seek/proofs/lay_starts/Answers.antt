@@ -1,6 +1,6 @@
 -- The starts of the classes below c are laid, and the i keys passed are of those classes.
 use mathlib.Core.Path.{◌≡◌, refl, sym}
-use Prim.Native.Nat.{◌≤◌, ◌<◌}
+use Prim.Native.Nat.{◌-◌, ◌≤◌, ◌<◌}
 use native.Mathlib.Omega.{arith}
 use lib.ListN.{length, take, get_or, length-set}
 use lib.Seq.{length-take-le, get_or-take}

@@ -1,6 +1,7 @@
 -- The keys of k links are written.
 use native.Mathlib.Omega.{arith}
 use mathlib.Core.Path.{◌≡◌, refl}
+use Prim.Native.Nat.{◌-◌}
 use lib.ListN.{length-set}
 use Rattle.lists.proofs.Laws.{writes_none, writes_next}
 use Rattle.surround.proofs.put_keys.Goals as goal
