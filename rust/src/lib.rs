@@ -67,13 +67,13 @@
 //! # Linking, stack and threads
 //!
 //! The crate links `libhestovane.a`, which `./library`, in the folder above, proves and builds into
-//! `target/native`. An archive elsewhere, or for another processor, is named by the whole path of
-//! its folder in the environment variable `HESTOVANE_LIB_DIR`. An archive that answers as no call
-//! does is not this library, and the crate panics rather than hand its answer on.
+//! `target/native`, for x86-64. An archive elsewhere is named by the whole path of its folder in
+//! the environment variable `HESTOVANE_LIB_DIR`. An archive that answers as no call does is not
+//! this library, and the crate panics rather than hand its answer on.
 //!
-//! A call takes up to 175 KiB of stack, and not much less for a small register: 175 KiB for
-//! [`check`] and [`Summary::read`], 145 for [`condense`], [`ask_summary`] and [`list`], 110 for
-//! [`ask_register`], measured on aarch64.
+//! A call takes up to 176 KiB of stack, and not much less for a small register: 176 KiB for
+//! [`check`] and [`Summary::read`], 145 for [`condense`], 130 for [`ask_summary`] and [`list`], 105
+//! for [`ask_register`], as measured.
 //! Threads have 2 MiB unless told otherwise; lend one that calls in here 256 KiB or more. With too
 //! little the process ends with a stack overflow, as it does in Rust's own code. The calls keep
 //! nothing between them, so any number of threads may call at once.
