@@ -65,8 +65,8 @@ size_code k a {v} e w =
 
 -- ---- what a list of those items is, handed back and in the lent buffer
 
-pub record Names {R : Type 0} (type_size : ℕ → R) (nine : R) (found d : List ℕ) (r : R) (d' : List ℕ) : Type 0 where
-  pub enough : 2 * length found ≤ length d → (r ≡ type_size (2 * length found)) × (d' ≡ pack put2 found ++ drop (2 * length found) d)
+pub record Names {R : Type 0} (size_of : ℕ → R) (nine : R) (found d : List ℕ) (r : R) (d' : List ℕ) : Type 0 where
+  pub enough : 2 * length found ≤ length d → (r ≡ size_of (2 * length found)) × (d' ≡ pack put2 found ++ drop (2 * length found) d)
   pub short : length d < 2 * length found → (r ≡ nine) × (d' ≡ d)
 
 names : (found d : List ℕ) → let a = into (length d) (pack put2 found) in

@@ -1,5 +1,6 @@
 // The public calls. Each takes any input, judges it for itself and refuses with document 01's numbers in document 01's order; its
-// contract is an equation with the call's one definition in meaning's Answers. The exported functions give the same as one number.
+// contract is an equation with the call's one definition in meaning's Answers. The last five, which hestovane_c exports to C, give the
+// same as one number.
 #![tactic(auto)]
 
 ghost use Rattle.std.specs.Prelude.{◌≡◌, length};
