@@ -117,7 +117,7 @@ world =
 pub look : Symbol → Entry
 look = in_world world
 
--- the environment that runs what the look-up finds; a call of anything else there is stuck
+-- the environment that runs what the look-up finds; a call of any other name is stuck there
 abbrev pub linked : Env
 linked = tie_t look
 
