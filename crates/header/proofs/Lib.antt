@@ -1,3 +1,4 @@
 pub mod File
 pub mod Laws
+pub mod Linked
 pub mod Proposed

@@ -1,2 +1,3 @@
 -- Laws of ascending keys.
 pub mod Laws
+pub mod Linked

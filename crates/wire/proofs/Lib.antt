@@ -1,2 +1,3 @@
 -- What a write leaves of a lent buffer.
 pub mod Sets
+pub mod Linked

@@ -1,0 +1,19 @@
+-- The table of the functions here, and that a look-up that holds it finds what other crates call: for Linked of demands.
+use mathlib.Core.Bool.{true}
+use prog.Wired.{Code}
+use prog.Linked.{Tree, World, Holds, in_world}
+use prog.LinkedThreads.{HasT}
+use Rattle.alike.proofs.TheLink
+use Rattle.alike.proofs.levels.Symbol as levels-symbol
+
+abbrev pub table : Tree
+table = TheLink.table
+
+abbrev pub Below : World → Type 0
+Below = TheLink.Below
+
+abbrev pub Found : Code → Type 0
+Found c = (W : World) → Holds W "alike" table → Below W → HasT (in_world W) true c
+
+pub has-levels : Found levels-symbol.code
+has-levels = TheLink.linked-alike::levels

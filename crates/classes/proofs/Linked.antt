@@ -1,0 +1,19 @@
+-- The table of the functions here, and that a look-up that holds it finds what other crates call: for Linked of demands.
+use mathlib.Core.Bool.{true}
+use prog.Wired.{Code}
+use prog.Linked.{Tree, World, Holds, in_world}
+use prog.LinkedThreads.{HasT}
+use Rattle.classes.proofs.TheLink
+use Rattle.classes.proofs.records.Symbol as records-symbol
+
+abbrev pub table : Tree
+table = TheLink.table
+
+abbrev pub Below : World → Type 0
+Below = TheLink.Below
+
+abbrev pub Found : Code → Type 0
+Found c = (W : World) → Holds W "classes" table → Below W → HasT (in_world W) true c
+
+pub has-records : Found records-symbol.code
+has-records = TheLink.linked-classes::records

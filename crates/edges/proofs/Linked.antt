@@ -1,0 +1,19 @@
+-- The table of the functions here, and that a look-up that holds it finds what other crates call: for Linked of demands.
+use mathlib.Core.Bool.{true}
+use prog.Wired.{Code}
+use prog.Linked.{Tree, World, Holds, in_world}
+use prog.LinkedThreads.{HasT}
+use Rattle.edges.proofs.TheLink
+use Rattle.edges.proofs.class_links.Symbol as class_links-symbol
+
+abbrev pub table : Tree
+table = TheLink.table
+
+abbrev pub Below : World → Type 0
+Below = TheLink.Below
+
+abbrev pub Found : Code → Type 0
+Found c = (W : World) → Holds W "edges" table → Below W → HasT (in_world W) true c
+
+pub has-class_links : Found class_links-symbol.code
+has-class_links = TheLink.linked-edges::class_links

@@ -1,0 +1,19 @@
+-- The table of the functions here, and that a look-up that holds it finds what other crates call: for Linked of demands.
+use mathlib.Core.Bool.{true}
+use prog.Wired.{Code}
+use prog.Linked.{Tree, World, Holds, in_world}
+use prog.LinkedThreads.{HasT}
+use Rattle.images.proofs.TheLink
+use Rattle.images.proofs.links_are_images.Symbol as links_are_images-symbol
+
+abbrev pub table : Tree
+table = TheLink.table
+
+abbrev pub Below : World → Type 0
+Below = TheLink.Below
+
+abbrev pub Found : Code → Type 0
+Found c = (W : World) → Holds W "images" table → Below W → HasT (in_world W) true c
+
+pub has-links_are_images : Found links_are_images-symbol.code
+has-links_are_images = TheLink.linked-images::links_are_images

@@ -1,0 +1,19 @@
+-- The table of the functions here, and that a look-up that holds it finds what other crates call: for Linked of demands.
+use mathlib.Core.Bool.{true}
+use prog.Wired.{Code}
+use prog.Linked.{Tree, World, Holds, in_world}
+use prog.LinkedThreads.{HasT}
+use Rattle.matching.proofs.TheLink
+use Rattle.matching.proofs.rows_match.Symbol as rows_match-symbol
+
+abbrev pub table : Tree
+table = TheLink.table
+
+abbrev pub Below : World → Type 0
+Below = TheLink.Below
+
+abbrev pub Found : Code → Type 0
+Found c = (W : World) → Holds W "matching" table → Below W → HasT (in_world W) true c
+
+pub has-rows_match : Found rows_match-symbol.code
+has-rows_match = TheLink.linked-matching::rows_match

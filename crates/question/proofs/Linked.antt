@@ -1,0 +1,23 @@
+-- The table of the functions here, and that a look-up that holds it finds what other crates call: for Linked of demands.
+use mathlib.Core.Bool.{true}
+use prog.Wired.{Code}
+use prog.Linked.{Tree, World, Holds, in_world}
+use prog.LinkedThreads.{HasT}
+use Rattle.question.proofs.TheLink
+use Rattle.question.proofs.judge.Symbol as judge-symbol
+use Rattle.question.proofs.span.Symbol as span-symbol
+
+abbrev pub table : Tree
+table = TheLink.table
+
+abbrev pub Below : World → Type 0
+Below = TheLink.Below
+
+abbrev pub Found : Code → Type 0
+Found c = (W : World) → Holds W "question" table → Below W → HasT (in_world W) true c
+
+pub has-judge : Found judge-symbol.code
+has-judge = TheLink.linked-question::judge
+
+pub has-span : Found span-symbol.code
+has-span = TheLink.linked-question::span
