@@ -1,6 +1,5 @@
 pub mod Calls
 pub mod Held
-pub mod Linked
 pub mod Made
 pub mod OverTheCalls
 pub mod Ran

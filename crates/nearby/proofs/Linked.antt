@@ -1,4 +1,4 @@
--- The table of the functions here, and that a look-up that holds it finds what other crates call: for Linked of demands.
+-- The table of the functions here, and that a look-up that holds it finds what other crates call: for the crate linked.
 use mathlib.Core.Bool.{true}
 use prog.Wired.{Code}
 use prog.Linked.{Tree, World, Holds, in_world}

@@ -1,6 +1,6 @@
 -- The functions of C with no premise left: an environment that has their code and the code of all that they call, and so each call as it
 -- runs there. The checker makes for each crate a table of its functions and, from such tables below it, that a look-up finds them (`TheLink`);
--- here the tables of the crates are put side by side. Leans on Ran.
+-- here the tables of the crates are put side by side. Leans on Ran of demands.
 use mathlib.Core.Path.{refl}
 use mathlib.Core.List.{[], ◌∷◌}
 use lib.Chars.{codes}
