@@ -40,10 +40,8 @@ fn copy_classes(from: &[u16], n: usize, to: &mut [u16])
     requires { (n ≤ length from.now) × (n ≤ length to.old) }
     ensures { to.new ≡ take n from.now ++ drop n to.old }
 {
-    let mut x = 0;
-    while x < n {
+    for x in 0..n {
         to[x] = from[x];
-        x += 1;
     }
 }
 
@@ -52,12 +50,10 @@ fn same_classes(lower: &[u16], upper: &[u16], n: usize) -> bool
     requires { (n ≤ length lower.now) × (n ≤ length upper.now) }
     ensures { result ≡ true → take n lower.now ≡ take n upper.now }
 {
-    let mut x = 0;
-    while x < n {
+    for x in 0..n {
         if lower[x] != upper[x] {
             return false;
         }
-        x += 1;
     }
     true
 }

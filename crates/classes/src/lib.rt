@@ -17,15 +17,13 @@ pub fn records(reg: &[u8], n: usize, groups: &[u16], classes: &[u16], nu: u8) ->
 {
     let counts = capped::by_class(classes, n, nu);
     let mut out = [0u16; 4096];
-    let mut x = 0;
-    while x < n {
+    for x in 0..n {
         let class = classes[x];
         let count = counts[class as usize];
         let before = groups[x];
         let group = Class(before).as_group();
         let number = x as u16;
         enter(reg, Item(number), group, Class(class), count, &mut out);
-        x += 1;
     }
     out
 }

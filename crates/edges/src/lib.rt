@@ -36,10 +36,8 @@ fn put_keys(reg: &[u8], n: usize, m: usize, classes: &[u16], keys: &mut [u64])
     ensures { keys.new ≡ tab (λ k. key_of_word (take n classes.now) (link_of (register_in reg.now) k)) m
         ++ drop m keys.old }
 {
-    let mut k = 0;
-    while k < m {
+    for k in 0..m {
         keys[k] = key_of(reg, n, k, classes);
-        k += 1;
     }
 }
 
@@ -70,15 +68,13 @@ fn put_links(keys: &[u64], m: usize, out: &mut [u16]) -> usize
 {
     let mut least: u64 = 0;
     let mut r = 0;
-    let mut i = 0;
-    while i < m {
+    for i in 0..m {
         let v = keys[i];
         if least <= v {
             put_link(out, r, v);
             least = v + 1;
             r += 1;
         }
-        i += 1;
     }
     r
 }

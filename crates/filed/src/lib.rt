@@ -26,10 +26,8 @@ fn copy_rows(class: u16, rows: &[u64], from: usize, m: usize, at: usize, out: &m
     requires { Words rows.now from m × (at + m ≤ 4096) × (length out.old ≡ 16384) }
     ensures { out.new ≡ sets out.old (4 * at) (copied rows.now class from m) }
 {
-    let mut j = 0;
-    while j < m {
+    for j in 0..m {
         put_row(class, rows[from + j], at + j, out);
-        j += 1;
     }
 }
 
@@ -47,10 +45,9 @@ pub fn row_numbers(
         → (result ≡ length (class_rows R µ gs (take n classes.now)))
         × (take (4 * result) out.new ≡ pack row_numbers_word (class_rows R µ gs (take n classes.now))) }
 {
-    let mut x = 0;
     let mut seen = 0;
     let mut at = 0;
-    while x < n {
+    for x in 0..n {
         if classes[x] as usize == seen {
             let from = starts[x] as usize;
             let m = starts[x + 1] as usize - from;
@@ -58,7 +55,6 @@ pub fn row_numbers(
             seen += 1;
             at += m;
         }
-        x += 1;
     }
     at
 }

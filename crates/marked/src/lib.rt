@@ -29,10 +29,8 @@ fn read_marks(reg: &[u8], n: usize, marks: &mut [u32])
     requires { OfItems reg.now n × (n ≤ length marks.old) }
     ensures { (x : ℕ) → x < n → get_or marks.new x 0 ≡ marks_of (register_in reg.now) x }
 {
-    let mut x = 0;
-    while x < n {
+    for x in 0..n {
         marks[x] = register::marks(reg, Item(x as u16));
-        x += 1;
     }
 }
 
@@ -54,10 +52,8 @@ fn put_marks(marks: &[u32], n: usize, out: &mut [u64])
     requires { (n ≤ 1024) × (n ≤ length marks.now) × (n ≤ length out.old) }
     ensures { out.new ≡ tab (pack (λ x. get_or marks.now x 0)) n ++ drop n out.old }
 {
-    let mut x = 0;
-    while x < n {
+    for x in 0..n {
         out[x] = marks[x] as u64 * 1024 + x as u64;
-        x += 1;
     }
 }
 
@@ -68,14 +64,12 @@ fn find_marked(marks: &[u32], n: usize, s: &[u64], firsts: &mut [u16])
     ensures { (x : ℕ) → x < n → get_or firsts.new x 0 ≡ first (same_marks marks.now) x }
 {
     let mut r = 0;
-    let mut p = 0;
-    while p < n {
+    for p in 0..n {
         if s[p] / 1024 != s[r] / 1024 {
             r = p;
         }
         let x = (s[p] % 1024) as usize;
         firsts[x] = (s[r] % 1024) as u16;
-        p += 1;
     }
 }
 
@@ -86,8 +80,7 @@ pub fn number_firsts(firsts: &[u16], n: usize, out: &mut [u16]) -> usize
         × (out.new ≡ tab (number_of firsts.now) n ++ drop n out.old) }
 {
     let mut k: usize = 0;
-    let mut i = 0;
-    while i < n {
+    for i in 0..n {
         let j = firsts[i] as usize;
         if j == i {
             out[i] = k as u16;
@@ -95,7 +88,6 @@ pub fn number_firsts(firsts: &[u16], n: usize, out: &mut [u16]) -> usize
         } else {
             out[i] = out[j];
         }
-        i += 1;
     }
     k
 }

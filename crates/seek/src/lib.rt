@@ -128,12 +128,10 @@ fn mark_all(
     ensures { (result ≡ each (λ a. any (eqb a) (take r keys.now)) (take m needed.now))
         × (result ≡ true → Marks marked.new keys.now r (take m needed.now)) }
 {
-    let mut j = 0;
-    while j < m {
+    for j in 0..m {
         if !mark(keys, r, starts, c, needed[j], marked) {
             return false;
         }
-        j += 1;
     }
     true
 }
@@ -143,12 +141,10 @@ pub fn all_marked(marked: &[bool], r: usize) -> bool
     requires { r ≤ length marked.now }
     ensures { result ≡ all (λ i. get_or marked.now i false) r }
 {
-    let mut i = 0;
-    while i < r {
+    for i in 0..r {
         if !marked[i] {
             return false;
         }
-        i += 1;
     }
     true
 }

@@ -25,10 +25,8 @@ fn hash_of(groups: &[u16], starts: &[u16], rows: &[u64], n: usize, x: usize) -> 
     let at = starts[x] as usize;
     let m = starts[x + 1] as usize - at;
     let mut h = stir(0, groups[x] as u64);
-    let mut j = 0;
-    while j < m {
+    for j in 0..m {
         h = stir(h, rows[at + j]);
-        j += 1;
     }
     h
 }
@@ -47,12 +45,10 @@ fn same(groups: &[u16], starts: &[u16], rows: &[u64], n: usize, x: usize, y: usi
     if m != starts[y + 1] as usize - b {
         return false;
     }
-    let mut j = 0;
-    while j < m {
+    for j in 0..m {
         if rows[a + j] != rows[b + j] {
             return false;
         }
-        j += 1;
     }
     true
 }
@@ -63,10 +59,8 @@ fn put_hashes(groups: &[u16], starts: &[u16], rows: &[u64], n: usize, out: &mut 
     ensures { out.new ≡ tab (pack (hash_sig groups.now starts.now rows.now)) n
         ++ drop n out.old }
 {
-    let mut x = 0;
-    while x < n {
+    for x in 0..n {
         out[x] = hash_of(groups, starts, rows, n, x) * 1024 + x as u64;
-        x += 1;
     }
 }
 
@@ -87,13 +81,11 @@ fn leader(
         × (result < n) }
 {
     let x = (s[p] % 1024) as usize;
-    let mut q = r;
-    while q < p {
+    for q in r..p {
         let y = (s[q] % 1024) as usize;
         if same(groups, starts, rows, n, y, x) {
             return y;
         }
-        q += 1;
     }
     x
 }
@@ -113,15 +105,13 @@ fn find_firsts(
         ≡ first (alike_sig groups.now starts.now rows.now) x }
 {
     let mut r = 0;
-    let mut p = 0;
-    while p < n {
+    for p in 0..n {
         if s[p] / 1024 != s[r] / 1024 {
             r = p;
         }
         let y = leader(groups, starts, rows, n, s, r, p);
         let x = (s[p] % 1024) as usize;
         firsts[x] = y as u16;
-        p += 1;
     }
 }
 

@@ -48,10 +48,8 @@ fn put_keys(
     requires { OfRegister reg.now n m × OfClasses cs.now n × (from ≤ m) × (from + m ≤ length keys.old) }
     ensures { Writes keys.old keys.new from m (λ k. key_of way cs.now (link_of (register_in reg.now) k)) }
 {
-    let mut k = 0;
-    while k < m {
+    for k in 0..m {
         keys[from + k] = key(reg, n, k, cs, way);
-        k += 1;
     }
 }
 

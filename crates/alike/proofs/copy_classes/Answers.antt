@@ -12,9 +12,6 @@ loop-x-init c = (omega arith, refl, refl)
 pub bounds-to-x : goal.bounds-to-x
 bounds-to-x c = omega arith
 
-pub loop-x-smaller : goal.loop-x-smaller
-loop-x-smaller c = omega arith
-
 pub loop-x-preserved : goal.loop-x-preserved
 loop-x-preserved c =
     let a = c.args in

@@ -7,6 +7,3 @@ use Rattle.alike.proofs.copy_classes.Given as goal
 
 abbrev pub invariant-loop-x : goal.invariant-loop-x
 invariant-loop-x l = (l.x ≤ l.n) × (length l.to ≡ length l.initial.to) × (l.to ≡ take l.x l.from ++ drop l.x l.initial.to)
-
-abbrev pub decreases-loop-x : goal.decreases-loop-x
-decreases-loop-x l = l.n - l.x

@@ -11,12 +11,6 @@ loop-x-init c = (omega arith, refl)
 pub returns-then-lower-x : goal.returns-then-lower-x
 returns-then-lower-x c = λ e. absurd (let z : ◌≡◌ {A = ℕ} 0 1 = cc in omega arith)
 
-pub overflow_add-x : goal.overflow_add-x
-overflow_add-x c = omega arith
-
-pub loop-x-smaller : goal.loop-x-smaller
-loop-x-smaller c = omega arith
-
 pub loop-x-preserved : goal.loop-x-preserved
 loop-x-preserved c =
     let s = c.requires in

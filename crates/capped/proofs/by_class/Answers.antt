@@ -30,12 +30,6 @@ offset_bounds-counts-k-in-loop-x c = omega (arith, c.requires.1 c.loop-x.x (omeg
 pub bounds-counts-k-in-loop-x : goal.bounds-counts-k-in-loop-x
 bounds-counts-k-in-loop-x c = c.requires.1 c.loop-x.x (omega arith)
 
-pub overflow_add-x : goal.overflow_add-x
-overflow_add-x c = omega arith
-
-pub loop-x-smaller : goal.loop-x-smaller
-loop-x-smaller c = omega arith
-
 pub loop-x-preserved : goal.loop-x-preserved
 loop-x-preserved c = (
   omega arith,

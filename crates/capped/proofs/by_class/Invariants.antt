@@ -7,6 +7,3 @@ use Rattle.capped.proofs.by_class.Given as goal
 
 abbrev pub invariant-loop-x : goal.invariant-loop-x
 invariant-loop-x l = (l.x ≤ l.n) × (length l.counts ≡ 1024) × ByClass l.counts l.classes l.x l.cap
-
-abbrev pub decreases-loop-x : goal.decreases-loop-x
-decreases-loop-x l = l.n - l.x

@@ -51,12 +51,6 @@ pub enter-requires : goal.enter-requires
 enter-requires c =
     (c.requires.fine, omega (arith, c.requires.items_are), class_small _ _ _ _ c.requires _ (omega arith), c.loop-x.invariant.1)
 
-pub overflow_add-x : goal.overflow_add-x
-overflow_add-x c = omega (arith, n_items _ _ _ _ c.requires)
-
-pub loop-x-smaller : goal.loop-x-smaller
-loop-x-smaller c = omega arith
-
 pub loop-x-preserved : goal.loop-x-preserved
 loop-x-preserved c =
     let count = class_number _ _ _ _ _ (class_small _ _ _ _ c.requires c.loop-x.x (omega arith)) c.by_class-counts.ensures in (

@@ -10,6 +10,3 @@ use Rattle.classes.proofs.records.Given as goal
 abbrev pub invariant-loop-x : goal.invariant-loop-x
 invariant-loop-x l =
     (l.x ≤ l.n) × (length l.out ≡ 4096) × ((k : ℕ) → k < 1024 → Under (register_in l.reg) (take l.n l.groups) (take l.n l.classes) l.nu l.out l.x k)
-
-abbrev pub decreases-loop-x : goal.decreases-loop-x
-decreases-loop-x l = l.n - l.x

@@ -21,12 +21,6 @@ offset_bounds-keys-k c = omega arith
 pub bounds-keys-k : goal.bounds-keys-k
 bounds-keys-k c = omega arith
 
-pub overflow_add-k : goal.overflow_add-k
-overflow_add-k c = omega arith
-
-pub loop-k-smaller : goal.loop-k-smaller
-loop-k-smaller c = omega arith
-
 pub loop-k-preserved : goal.loop-k-preserved
 loop-k-preserved c =
     let l = c.loop-k in

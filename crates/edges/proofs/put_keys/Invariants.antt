@@ -12,6 +12,3 @@ use Rattle.edges.proofs.put_keys.Given as goal
 abbrev pub invariant-loop-k : goal.invariant-loop-k
 invariant-loop-k l =
     (l.k ≤ l.m) × (length l.keys ≡ length l.initial.keys) × (l.keys ≡ tab (λ i. key_of (take l.n l.classes) (link_of (register_in l.reg) i)) l.k ++ drop l.k l.initial.keys)
-
-abbrev pub decreases-loop-k : goal.decreases-loop-k
-decreases-loop-k l = l.m - l.k

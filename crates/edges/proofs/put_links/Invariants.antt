@@ -7,6 +7,3 @@ use Rattle.edges.proofs.put_links.Given as goal
 
 abbrev pub invariant-loop-i : goal.invariant-loop-i
 invariant-loop-i l = (l.i ≤ l.m) × (l.r ≤ l.i) × (length l.out ≡ length l.initial.out) × Written (take l.m l.keys) l.out l.i l.least l.r
-
-abbrev pub decreases-loop-i : goal.decreases-loop-i
-decreases-loop-i l = l.m - l.i

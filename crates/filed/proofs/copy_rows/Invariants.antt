@@ -8,6 +8,3 @@ use Rattle.filed.proofs.copy_rows.Given as goal
 
 abbrev pub invariant-loop-j : goal.invariant-loop-j
 invariant-loop-j l = (l.j ≤ l.m) × (length l.out ≡ 16384) × (l.out ≡ sets l.initial.out (4 * l.at) (copied l.rows l.class l.from l.j))
-
-abbrev pub decreases-loop-j : goal.decreases-loop-j
-decreases-loop-j l = l.m - l.j

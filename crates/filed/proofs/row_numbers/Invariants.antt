@@ -7,6 +7,3 @@ use Rattle.filed.proofs.row_numbers.Given as goal
 
 abbrev pub invariant-loop-x : goal.invariant-loop-x
 invariant-loop-x l = (l.x ≤ l.n) × (length l.out ≡ 16384) × Under l.n (take l.n l.classes) l.starts l.rows l.initial.out l.out l.x l.seen l.at
-
-abbrev pub decreases-loop-x : goal.decreases-loop-x
-decreases-loop-x l = l.n - l.x

@@ -63,12 +63,6 @@ bounds-firsts-x c =
     let l = c.loop-p in
     omega (arith, item_small (λ x. get_or a.marks.now x 0) a.n a.s.now c.requires.0 c.requires.2 l.p (omega arith))
 
-pub overflow_add-p : goal.overflow_add-p
-overflow_add-p c = omega arith
-
-pub loop-p-smaller : goal.loop-p-smaller
-loop-p-smaller c = omega arith
-
 pub loop-p-preserved : goal.loop-p-preserved
 loop-p-preserved c =
     let a = c.args in

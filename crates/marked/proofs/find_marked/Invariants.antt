@@ -11,6 +11,3 @@ use Rattle.marked.proofs.find_marked.Given as goal
 abbrev pub invariant-loop-p : goal.invariant-loop-p
 invariant-loop-p l =
     (l.p ≤ l.n) × (length l.firsts ≡ length l.initial.firsts) × Run l.s l.r l.p × ((q : ℕ) → q < l.p → get_or l.firsts (item l.s q) 0 ≡ first (same_marks l.marks) (item l.s q))
-
-abbrev pub decreases-loop-p : goal.decreases-loop-p
-decreases-loop-p l = l.n - l.p

@@ -45,12 +45,6 @@ offset_bounds-out-i-else-j-i c = omega arith
 pub bounds-out-i-else-j-i : goal.bounds-out-i-else-j-i
 bounds-out-i-else-j-i c = omega arith
 
-pub overflow_add-i : goal.overflow_add-i
-overflow_add-i c = omega arith
-
-pub loop-i-smaller : goal.loop-i-smaller
-loop-i-smaller c = omega arith
-
 pub loop-i-preserved : goal.loop-i-preserved
 loop-i-preserved c =
     let l = c.loop-i in

@@ -9,6 +9,3 @@ use Rattle.marked.proofs.number_firsts.Given as goal
 
 abbrev pub invariant-loop-i : goal.invariant-loop-i
 invariant-loop-i l = (l.i ≤ l.n) × (l.k ≤ l.i) × (l.k ≡ tally (own l.firsts) l.i) × (length l.out ≡ length l.initial.out) × (l.out ≡ tab (number_of l.firsts) l.i ++ drop l.i l.initial.out)
-
-abbrev pub decreases-loop-i : goal.decreases-loop-i
-decreases-loop-i l = l.n - l.i

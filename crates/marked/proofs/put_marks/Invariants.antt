@@ -9,6 +9,3 @@ use Rattle.marked.proofs.put_marks.Given as goal
 
 abbrev pub invariant-loop-x : goal.invariant-loop-x
 invariant-loop-x l = (l.x ≤ l.n) × (length l.out ≡ length l.initial.out) × (l.out ≡ tab (pack (λ y. get_or l.marks y 0)) l.x ++ drop l.x l.initial.out)
-
-abbrev pub decreases-loop-x : goal.decreases-loop-x
-decreases-loop-x l = l.n - l.x

@@ -18,9 +18,6 @@ overflow_cast-x c = omega (arith, few_items _ _ c.requires.0)
 pub bounds-marks-x : goal.bounds-marks-x
 bounds-marks-x c = omega arith
 
-pub loop-x-smaller : goal.loop-x-smaller
-loop-x-smaller c = omega arith
-
 pub loop-x-preserved : goal.loop-x-preserved
 loop-x-preserved c =
     let l = c.loop-x in (

@@ -8,6 +8,3 @@ use Rattle.marked.proofs.read_marks.Given as goal
 
 abbrev pub invariant-loop-x : goal.invariant-loop-x
 invariant-loop-x l = (l.x ≤ l.n) × (length l.marks ≡ length l.initial.marks) × ((y : ℕ) → y < l.x → get_or l.marks y 0 ≡ marks_of (register_in l.reg) y)
-
-abbrev pub decreases-loop-x : goal.decreases-loop-x
-decreases-loop-x l = l.n - l.x

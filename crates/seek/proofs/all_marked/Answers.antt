@@ -20,12 +20,6 @@ returns-then-not-marked-i c =
     let a = c.args in
     sym (all_no (λ k. get_or a.marked.now k false) a.r l.i (omega arith) c.if-not-marked-i.true)
 
-pub overflow_add-i : goal.overflow_add-i
-overflow_add-i c = omega arith
-
-pub loop-i-smaller : goal.loop-i-smaller
-loop-i-smaller c = omega arith
-
 pub loop-i-preserved : goal.loop-i-preserved
 loop-i-preserved c = (omega arith, below_more _ _ c.loop-i.invariant.1 c.if-not-marked-i.false)
 

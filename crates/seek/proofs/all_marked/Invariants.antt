@@ -7,6 +7,3 @@ use Rattle.seek.proofs.all_marked.Given as goal
 
 abbrev pub invariant-loop-i : goal.invariant-loop-i
 invariant-loop-i l = (l.i ≤ l.r) × ((k : ℕ) → k < l.i → get_or l.marked k false ≡ true)
-
-abbrev pub decreases-loop-i : goal.decreases-loop-i
-decreases-loop-i l = l.r - l.i

@@ -12,6 +12,3 @@ abbrev pub invariant-loop-j : goal.invariant-loop-j
 invariant-loop-j l =
     (l.j ≤ l.m) × (length l.marked ≡ length l.initial.marked) × ((c : ℕ) → c < l.j → any (eqb (get_or l.needed c 0)) (take l.r l.keys) ≡ true) × Marks l.marked l.keys l.r
     (take l.j l.needed)
-
-abbrev pub decreases-loop-j : goal.decreases-loop-j
-decreases-loop-j l = l.m - l.j

@@ -12,6 +12,3 @@ abbrev pub invariant-loop-p : goal.invariant-loop-p
 invariant-loop-p l =
     (l.p ≤ l.n) × (length l.firsts ≡ length l.initial.firsts) × Run l.s l.r l.p ×
     ((q : ℕ) → q < l.p → get_or l.firsts (item l.s q) 0 ≡ first (alike_sig l.groups l.starts l.rows) (item l.s q))
-
-abbrev pub decreases-loop-p : goal.decreases-loop-p
-decreases-loop-p l = l.n - l.p

@@ -70,14 +70,6 @@ bounds-rows-at c =
 pub stir-h-requires-in-loop-j : goal.stir-h-requires-in-loop-j
 stir-h-requires-in-loop-j c = omega arith
 
-pub overflow_add-j : goal.overflow_add-j
-unfolding size
-overflow_add-j c =
-    omega (arith, c.requires.0.rise c.args.x (omega (arith, c.requires)), c.requires.0.fit c.args.x (omega (arith, c.requires)))
-
-pub loop-j-smaller : goal.loop-j-smaller
-loop-j-smaller c = omega arith
-
 pub loop-j-preserved : goal.loop-j-preserved
 loop-j-preserved c =
     let a = c.args in

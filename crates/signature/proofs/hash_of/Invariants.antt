@@ -7,6 +7,3 @@ use Rattle.signature.proofs.hash_of.Given as goal
 
 abbrev pub invariant-loop-j : goal.invariant-loop-j
 invariant-loop-j l = (l.j ≤ l.m) × (l.m ≡ size l.starts l.x) × (l.at ≡ get_or l.starts l.x 0) × (l.h < 8388593) × (l.h ≡ hashed l.starts l.rows l.x (mix 0 (get_or l.groups l.x 0)) l.j)
-
-abbrev pub decreases-loop-j : goal.decreases-loop-j
-decreases-loop-j l = l.m - l.j

@@ -35,12 +35,6 @@ returns-then-same c =
     let y : t l.q ≡ true = rw l.invariant.2 at (sym c.same.ensures ∙ c.if-same.true) in
     (ap (item a.s.now) (sym (seek_found t l.q a.p (omega arith) y) ∙ l.invariant.3), c.requires.2 l.q (omega arith))
 
-pub overflow_add-q : goal.overflow_add-q
-overflow_add-q c = omega arith
-
-pub loop-q-smaller : goal.loop-q-smaller
-loop-q-smaller c = omega arith
-
 pub loop-q-preserved : goal.loop-q-preserved
 loop-q-preserved c =
     let a = c.args in

@@ -10,6 +10,3 @@ abbrev pub invariant-loop-q : goal.invariant-loop-q
 invariant-loop-q l =
     (l.r ≤ l.q) × (l.q ≤ l.p) × (l.x ≡ item l.s l.p) ×
     (seek (λ q. alike_sig l.groups l.starts l.rows (item l.s q) (item l.s l.p)) l.q (l.p - l.q) ≡ seek (λ q. alike_sig l.groups l.starts l.rows (item l.s q) (item l.s l.p)) l.r (l.p - l.r))
-
-abbrev pub decreases-loop-q : goal.decreases-loop-q
-decreases-loop-q l = l.p - l.q

@@ -26,12 +26,6 @@ offset_bounds-out-x c = omega arith
 pub bounds-out-x : goal.bounds-out-x
 bounds-out-x c = omega arith
 
-pub overflow_add-x : goal.overflow_add-x
-overflow_add-x c = omega arith
-
-pub loop-x-smaller : goal.loop-x-smaller
-loop-x-smaller c = omega arith
-
 pub loop-x-preserved : goal.loop-x-preserved
 loop-x-preserved c =
     let a = c.args in

@@ -10,6 +10,3 @@ use Rattle.signature.proofs.put_hashes.Given as goal
 
 abbrev pub invariant-loop-x : goal.invariant-loop-x
 invariant-loop-x l = (l.x ≤ l.n) × (length l.out ≡ length l.initial.out) × (l.out ≡ tab (pack (hash_sig l.groups l.starts l.rows)) l.x ++ drop l.x l.initial.out)
-
-abbrev pub decreases-loop-x : goal.decreases-loop-x
-decreases-loop-x l = l.n - l.x

@@ -128,14 +128,6 @@ returns-then-rows-a c =
     let t = c.if-rows-a.true in
     sym (sig_no3 a.groups.now a.starts.now a.rows.now a.x a.y l.j (omega arith) (rw (l.invariant.3, l.invariant.4) at t))
 
-pub overflow_add-j : goal.overflow_add-j
-unfolding size
-overflow_add-j c =
-    omega (arith, c.requires.0.rise c.args.x (omega (arith, c.requires)), c.requires.0.fit c.args.x (omega (arith, c.requires)))
-
-pub loop-j-smaller : goal.loop-j-smaller
-loop-j-smaller c = omega arith
-
 pub loop-j-preserved : goal.loop-j-preserved
 unfolding word
 loop-j-preserved c =

@@ -12,6 +12,3 @@ abbrev pub invariant-loop-j : goal.invariant-loop-j
 invariant-loop-j l =
     (l.j ≤ l.m) × (l.m ≡ size l.starts l.x) × (size l.starts l.x ≡ size l.starts l.y) × (l.a ≡ get_or l.starts l.x 0) × (l.b ≡ get_or l.starts l.y 0) ×
     (all (λ j. eqb (word l.starts l.rows l.x j) (word l.starts l.rows l.y j)) l.j ≡ true)
-
-abbrev pub decreases-loop-j : goal.decreases-loop-j
-decreases-loop-j l = l.m - l.j

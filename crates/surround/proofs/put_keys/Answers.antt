@@ -17,9 +17,6 @@ key-requires c =
 pub bounds-keys-from : goal.bounds-keys-from
 bounds-keys-from c = omega arith
 
-pub loop-k-smaller : goal.loop-k-smaller
-loop-k-smaller c = omega arith
-
 pub loop-k-preserved : goal.loop-k-preserved
 loop-k-preserved c =
     let l = c.loop-k in

@@ -10,6 +10,3 @@ use Rattle.surround.proofs.put_keys.Given as goal
 
 abbrev pub invariant-loop-k : goal.invariant-loop-k
 invariant-loop-k l = (l.k ≤ l.m) × (length l.keys ≡ length l.initial.keys) × Writes l.initial.keys l.keys l.from l.k (λ j. key_of l.way l.cs (link_of (register_in l.reg) j))
-
-abbrev pub decreases-loop-k : goal.decreases-loop-k
-decreases-loop-k l = l.m - l.k
