@@ -11,7 +11,7 @@ use native.Mathlib.Numerals.{add-one}
 use borrow.Author.Tests.{lt-ltb, ltb-true, ltb-false, eq-eqb, ne_eqb, eqb-true}
 use lib.Dec.{eqb, ltb}
 use lib.ListN.{length, get_or, take, set, length-set}
-use lib.Seq.{take-suc, length-take-le, get_or-take, get_or-set_same, get_or-set_other}
+use lib.Seq.{take-suc, take-length, get_or-set_same, get_or-set_other}
 use Rattle.meaning.specs.Count.{all, any, each, ascends}
 use Rattle.theory.proofs.CountLaws.{by_bool, no, and_inv, and_yes, or_inv, bool_iff, eqb_sym, by_eq, all_yes, all_no, all_at, any_append, any_some, any_at, each_tab, every_and, each_every, each_yes, ascends_above, ascends_rest, ascends_at}
 use Rattle.theory.proofs.ShapeLaws.{any_place}
@@ -173,40 +173,37 @@ stands_there ks key at u s =
 
 -- ---- marks
 
-module _ (keys : List ℕ) (r v at : ℕ) (marked : List Bool) (h : r ≤ length keys) (u : Up (take r keys)) where
-  key_in : (i : ℕ) → i < r → get_or keys i 0 ≡ v → any (eqb v) (take r keys) ≡ true
+module _ (keys : List ℕ) (v at : ℕ) (marked : List Bool) (u : Up keys) where
+  key_in : (i : ℕ) → i < length keys → get_or keys i 0 ≡ v → any (eqb v) keys ≡ true
   key_in i k e =
-      any_at (eqb v) 0 (take r keys) i (rw (length-take-le r keys h) k) (rw (get_or-take r keys i 0 k) (eq-eqb v (get_or keys i 0) (sym e)))
+      any_at (eqb v) 0 keys i k (eq-eqb v (get_or keys i 0) (sym e))
 
   -- a number that is no key changes no mark
-  pub marks_kept : Stands (take r keys) v at → (at < r → get_or keys at 0 ≡ v → ⊥)
-      → (false ≡ any (eqb v) (take r keys)) × ((i : ℕ) → i < r → get_or marked i false ≡ (get_or marked i false || eqb (get_or keys i 0) v))
+  pub marks_kept : Stands keys v at → (at < length keys → get_or keys at 0 ≡ v → ⊥)
+      → (false ≡ any (eqb v) keys) × ((i : ℕ) → i < length keys → get_or marked i false ≡ (get_or marked i false || eqb (get_or keys i 0) v))
   marks_kept s n =
-      let none : any (eqb v) (take r keys) ≡ false =
-      by_bool (any (eqb v) (take r keys))
+      let none : any (eqb v) keys ≡ false =
+      by_bool (any (eqb v) keys)
       (λ t.
-      let f = and_inv (ltb at (length (take r keys))) (eqb (get_or (take r keys) at 0) v) (sym (stands_there (take r keys) v at u s) ∙ t) in
-      let l : at < r = rw (length-take-le r keys h) at (ltb-true at (length (take r keys)) f.0) in
-      absurd (n l (rw (get_or-take r keys at 0 l) at (eqb-true (get_or (take r keys) at 0) v f.1))))
+      let f = and_inv (ltb at (length keys)) (eqb (get_or keys at 0) v) (sym (stands_there keys v at u s) ∙ t) in
+      absurd (n (ltb-true at (length keys) f.0) (eqb-true (get_or keys at 0) v f.1)))
       (λ t. t) in (
         sym none,
         λ i k. rw (ne_eqb (get_or keys i 0) v (λ e. no (key_in i k e) none), or-false (get_or marked i false)),
       )
 
-  rises : (a b : ℕ) → a < b → b < r → get_or keys a 0 < get_or keys b 0
-  rises a b p q =
-      rw (get_or-take r keys a 0 (omega arith), get_or-take r keys b 0 q)
-      at (ascends_at (λ k. k) 0 (take r keys) a b u p (rw (length-take-le r keys h) q))
+  rises : (a b : ℕ) → a < b → b < length keys → get_or keys a 0 < get_or keys b 0
+  rises a b p q = ascends_at (λ k. k) 0 keys a b u p q
 
-  apart : (a b : ℕ) → a < r → b < r → (a ≡ b → ⊥) → get_or keys a 0 ≡ get_or keys b 0 → ⊥
+  apart : (a b : ℕ) → a < length keys → b < length keys → (a ≡ b → ⊥) → get_or keys a 0 ≡ get_or keys b 0 → ⊥
   apart a b k l n e =
       by_bool (ltb a b)
       (λ t. omega (arith, rises a b (ltb-true a b t) l))
       (λ t. omega (arith, rises b a (omega (arith, ltb-false a b t)) k))
 
   -- a number that is a key sets the mark of that key alone
-  pub marks_set : at < r → r ≤ length marked → get_or keys at 0 ≡ v
-      → (true ≡ any (eqb v) (take r keys)) × ((i : ℕ) → i < r → get_or (set marked at true) i false ≡ (get_or marked i false || eqb (get_or keys i 0) v))
+  pub marks_set : at < length keys → length keys ≤ length marked → get_or keys at 0 ≡ v
+      → (true ≡ any (eqb v) keys) × ((i : ℕ) → i < length keys → get_or (set marked at true) i false ≡ (get_or marked i false || eqb (get_or keys i 0) v))
   marks_set l g e = (
     sym (key_in at l e),
     λ i k.
@@ -215,15 +212,15 @@ module _ (keys : List ℕ) (r v at : ℕ) (marked : List Bool) (h : r ≤ length
         (λ q. get_or-set_other marked at i true false q ∙ rw (ne_eqb (get_or keys i 0) v (λ f. apart i at k l q (f ∙ sym e)), or-false (get_or marked i false))),
   )
 
-pub marks_none : (keys : List ℕ) (r : ℕ) (marked : List Bool) → ((i : ℕ) → i < r → get_or marked i false ≡ false) → Marks marked keys r []
+pub marks_none : (keys : List ℕ) (marked : List Bool) → ((i : ℕ) → i < length keys → get_or marked i false ≡ false) → Marks marked keys []
 unfolding any
-marks_none keys r marked h = record { mark = h }
+marks_none keys marked h = record { mark = h }
 
 -- one number more is marked
-pub marks_next : (keys needed : List ℕ) (r j : ℕ) (old marked : List Bool) → j < length needed → Marks old keys r (take j needed)
-    → ((i : ℕ) → i < r → get_or marked i false ≡ (get_or old i false || eqb (get_or keys i 0) (get_or needed j 0))) → Marks marked keys r (take (j + 1) needed)
+pub marks_next : (keys needed : List ℕ) (j : ℕ) (old marked : List Bool) → j < length needed → Marks old keys (take j needed)
+    → ((i : ℕ) → i < length keys → get_or marked i false ≡ (get_or old i false || eqb (get_or keys i 0) (get_or needed j 0))) → Marks marked keys (take (j + 1) needed)
 unfolding any
-marks_next keys needed r j old marked h p s =
+marks_next keys needed j old marked h p s =
     record {
       mark = λ i k.
           s i k
@@ -233,26 +230,26 @@ marks_next keys needed r j old marked h p s =
 
 -- ---- the members
 
--- a test of the first n numbers, as a loop makes it: all pass, or one does not
-module _ (p : ℕ → Bool) (s : List ℕ) (n : ℕ) (h : n ≤ length s) where
-  each_first : each p (take n s) ≡ all (λ i. p (get_or s i 0)) n
-  each_first = ap (each p) (front s n h) ∙ each_tab p (λ i. get_or s i 0) n
+-- a test of all numbers, as a loop makes it: all pass, or one does not
+module _ (p : ℕ → Bool) (s : List ℕ) where
+  each_place : each p s ≡ all (λ i. p (get_or s i 0)) (length s)
+  each_place = ap (each p) (sym (take-length s) ∙ front s (length s) (omega arith)) ∙ each_tab p (λ i. get_or s i 0) (length s)
 
-  pub first_yes : ((i : ℕ) → i < n → p (get_or s i 0) ≡ true) → true ≡ each p (take n s)
-  first_yes f = sym (each_first ∙ all_yes (λ i. p (get_or s i 0)) n f)
+  pub each_passes : ((i : ℕ) → i < length s → p (get_or s i 0) ≡ true) → true ≡ each p s
+  each_passes f = sym (each_place ∙ all_yes (λ i. p (get_or s i 0)) (length s) f)
 
-  pub first_no : (i : ℕ) → i < n → p (get_or s i 0) ≡ false → false ≡ each p (take n s)
-  first_no i k f = sym (each_first ∙ all_no (λ i. p (get_or s i 0)) n i k f)
+  pub each_fails : (i : ℕ) → i < length s → p (get_or s i 0) ≡ false → false ≡ each p s
+  each_fails i k f = sym (each_place ∙ all_no (λ i. p (get_or s i 0)) (length s) i k f)
 
 -- every number that is needed is a key, and the keys that are needed are marked
-pub members : (keys needed : List ℕ) (r m : ℕ) (marked : List Bool) → r ≤ length keys → each (λ a. any (eqb a) (take r keys)) (take m needed) ≡ true
-    → Marks marked keys r (take m needed) → all (λ i. get_or marked i false) r ≡ same_members (take r keys) (take m needed)
+pub members : (keys needed : List ℕ) (marked : List Bool) → each (λ a. any (eqb a) keys) needed ≡ true → Marks marked keys needed
+    → all (λ i. get_or marked i false) (length keys) ≡ same_members keys needed
 unfolding same_members
-members keys needed r m marked h e p =
-    rw (e, each_first (λ b. any (eqb b) (take m needed)) keys r h)
+members keys needed marked e p =
+    rw (e, each_place (λ b. any (eqb b) needed) keys)
     (bool_iff _ _
-    (λ t. all_yes _ r (λ i k. sym (p.mark i k) ∙ all_at _ r i k t))
-    (λ t. all_yes _ r (λ i k. p.mark i k ∙ all_at _ r i k t)))
+    (λ t. all_yes _ (length keys) (λ i k. sym (p.mark i k) ∙ all_at _ (length keys) i k t))
+    (λ t. all_yes _ (length keys) (λ i k. p.mark i k ∙ all_at _ (length keys) i k t)))
 
 -- some number that is needed is no key
 pub members_no : (ks ns : List ℕ) → each (λ a. any (eqb a) ks) ns ≡ false → same_members ks ns ≡ false

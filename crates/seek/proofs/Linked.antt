@@ -4,9 +4,9 @@ use prog.Wired.{Code}
 use prog.Linked.{Tree, World, Holds, in_world}
 use prog.LinkedThreads.{HasT}
 use Rattle.seek.proofs.TheLink
+use Rattle.seek.proofs.Ascending.find.Symbol as find-symbol
+use Rattle.seek.proofs.Ascending.same_members.Symbol as same_members-symbol
 use Rattle.seek.proofs.all_marked.Symbol as all_marked-symbol
-use Rattle.seek.proofs.find.Symbol as find-symbol
-use Rattle.seek.proofs.same_members.Symbol as same_members-symbol
 
 abbrev pub table : Tree
 table = TheLink.table
@@ -21,7 +21,7 @@ pub has-all_marked : Found all_marked-symbol.code
 has-all_marked = TheLink.linked-seek::all_marked
 
 pub has-find : Found find-symbol.code
-has-find = TheLink.linked-seek::find
+has-find = TheLink.linked-seek::Ascending::find
 
 pub has-same_members : Found same_members-symbol.code
-has-same_members = TheLink.linked-seek::same_members
+has-same_members = TheLink.linked-seek::Ascending::same_members

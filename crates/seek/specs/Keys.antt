@@ -33,6 +33,6 @@ pub record Laid (starts ks : List ℕ) (c : ℕ) : Type 0 where
   pub start : (k : ℕ) → k ≤ c → Splits ks k (get_or starts k 0)
   pub last : get_or starts c 0 ≡ length ks
 
--- among the first r keys, exactly those that are among the numbers ns are marked
-pub record Marks (marked : List Bool) (keys : List ℕ) (r : ℕ) (ns : List ℕ) : Type 0 where
-  pub mark : (i : ℕ) → i < r → get_or marked i false ≡ any (eqb (get_or keys i 0)) ns
+-- among the keys, exactly those that are among the numbers ns are marked
+pub record Marks (marked : List Bool) (keys ns : List ℕ) : Type 0 where
+  pub mark : (i : ℕ) → i < length keys → get_or marked i false ≡ any (eqb (get_or keys i 0)) ns

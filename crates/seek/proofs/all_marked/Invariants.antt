@@ -1,9 +1,6 @@
 -- Every mark passed is set.
-use mathlib.Core.Path.{◌≡◌}
-use mathlib.Core.Bool.{true, false}
-use Prim.Native.Nat.{ℕ, ◌-◌, ◌≤◌, ◌<◌}
-use lib.ListN.{get_or}
+use Rattle.std.proofs.Common.{◌≡◌, ℕ, ◌<◌, true, false, get_or}
 use Rattle.seek.proofs.all_marked.Given as goal
 
-abbrev pub invariant-loop-i : goal.invariant-loop-i
-invariant-loop-i l = (l.i ≤ l.r) × ((k : ℕ) → k < l.i → get_or l.marked k false ≡ true)
+abbrev pub invariant-loop-set : goal.invariant-loop-set
+invariant-loop-set l = (k : ℕ) → k < l.set-index → get_or l.marked k false ≡ true
