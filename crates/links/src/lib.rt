@@ -23,13 +23,11 @@ pub fn fine(b: &[u8], at: usize, m: usize, n: usize) -> bool
     let mut source = wire::two(b, at);
     let mut rest = rest_at(b, at);
     let mut key = source as u64 * 4294967296 + rest as u64;
-    let mut k = 0;
-    while k + 1 < m {
+    for k in 0..m - 1 {
         if !rest_fine(rest, n) {
             return false;
         }
-        k += 1;
-        let place = at + 6 * k;
+        let place = at + 6 * (k + 1);
         source = wire::two(b, place);
         rest = rest_at(b, place);
         let next = source as u64 * 4294967296 + rest as u64;

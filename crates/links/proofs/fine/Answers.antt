@@ -20,9 +20,6 @@ loop-k-init c =
           r.ensures.1 refl),
     )
 
-pub overflow_add-k : goal.overflow_add-k
-overflow_add-k c = omega arith
-
 pub returns-then-not-rest_fine : goal.returns-then-not-rest_fine
 returns-then-not-rest_fine c =
     let l = c.loop-k in
@@ -41,9 +38,6 @@ returns-then-next-key c =
     (hand_falls _ _ _ _ _ _ _ l.invariant.2 _ _ _ next c.if-next-key.true))
     ∙ all_follow _ _ _ _
 
-pub loop-k-smaller : goal.loop-k-smaller
-loop-k-smaller c = omega arith
-
 pub loop-k-preserved : goal.loop-k-preserved
 loop-k-preserved c =
     let l = c.loop-k in
@@ -52,9 +46,6 @@ loop-k-preserved c =
     let next = read_at a.b.now a.at a.n (l.k + 1) _ _ _ _ refl c.two-source-in-loop-k.ensures r.ensures.0 r.ensures.1 refl in
     let yes = sym c.rest_fine.ensures ∙ c.if-not-rest_fine.false in
     (omega arith, omega arith, hand_next _ _ _ _ _ _ _ l.invariant.2 _ _ _ next yes c.if-next-key.false)
-
-pub overflow_cast-source : goal.overflow_cast-source
-overflow_cast-source c = omega arith
 
 pub returns-then-n-source : goal.returns-then-n-source
 returns-then-n-source c =
