@@ -1,4 +1,3 @@
 pub mod File
-pub mod Laws
 pub mod Linked
 pub mod Proposed

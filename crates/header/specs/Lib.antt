@@ -1,2 +1,3 @@
+pub mod Keyed
 pub mod Limits
 pub mod Proposed

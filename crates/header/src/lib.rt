@@ -1,14 +1,39 @@
-// The header of a summary judged: offsets and length, and the four sizes. Leans on reader for the file's numbers, on summary for the sizes
-// of its records.
+// The header of a summary judged: offsets and length, and the four sizes; and what a summary is once all of it is judged. Leans on reader
+// for the file's numbers, on summary for the sizes of its records.
 #![tactic(auto)]
 
-ghost use Rattle.std.specs.Prelude.{◌≡◌, true};
+ghost use Rattle.std.specs.Prelude.{◌≡◌, true, false, length, MatchOption};
 ghost use Rattle.meaning.specs.WellFormed.{sizes};
 ghost use Rattle.meaning.specs.SummaryFile as file;
 ghost use Rattle.meaning.specs.SummaryFile.{summary_in};
+ghost use Rattle.header.specs.Keyed.{Keyed};
+
+use reader::Summary;
+
+// A summary that is well formed, and the keys of its rows: who judged it has left them for who reads on.
+#[derive(Clone, Copy)]
+pub struct WellFormed<'a> {
+    pub summary: Summary<'a>,
+    pub keys: &'a [u64],
+    ghost well: { file.well_formed_file summary.bytes.now ≡ true },
+    ghost long: { length keys.now ≡ 4096 },
+    ghost keyed: { Keyed true (summary_in summary.bytes.now) keys.now },
+}
+
+// The bytes as a summary, if they can be one.
+pub fn read(s: &[u8]) -> Option<Summary<'_>>
+    ensures { MatchOption result (file.exact s.now ≡ false) (λ read. read.bytes.now ≡ s.now) }
+{
+    if exact(s) {
+        Some(Summary { bytes: s })
+    } else {
+        None
+    }
+}
 
 // "there are 24 bytes or more; offsets and length are exact".
-pub fn exact(s: &[u8]) -> bool
+#[tactic(auto, unfolding(meaning::specs::SummaryFile::exact))]
+fn exact(s: &[u8]) -> bool
     ensures { result ≡ file.exact s.now }
 {
     if s.len() < 24 {
@@ -17,34 +42,17 @@ pub fn exact(s: &[u8]) -> bool
     let rows = 24 + 2 * summary::CLASS * wire::two(s, 6) as usize;
     let links = rows + 2 * summary::ROW * wire::two(s, 10) as usize;
     let map = links + 2 * summary::EDGE * wire::two(s, 12) as usize;
-    if wire::two(s, 16) != 24 {
-        return false;
-    }
-    if wire::two(s, 18) as usize != rows {
-        return false;
-    }
-    if wire::two(s, 20) as usize != links {
-        return false;
-    }
-    if wire::two(s, 22) as usize != map {
-        return false;
-    }
-    s.len() == map + 2 * wire::two(s, 14) as usize
+    wire::two(s, 16) == 24
+        && wire::two(s, 18) as usize == rows
+        && wire::two(s, 20) as usize == links
+        && wire::two(s, 22) as usize == map
+        && s.len() == map + 2 * wire::two(s, 14) as usize
 }
 
 // "c, n ≤ 1,024, r ≤ 4,096, e ≤ 2,048".
-pub fn few(s: &[u8]) -> bool
-    requires { file.exact s.now ≡ true }
-    ensures { result ≡ sizes (summary_in s.now) }
+#[tactic(auto, unfolding(meaning::specs::WellFormed::sizes))]
+pub fn few(s: &Summary) -> bool
+    ensures { result ≡ sizes (summary_in s.now.bytes.now) }
 {
-    if 1024 < reader::classes(s) {
-        return false;
-    }
-    if 1024 < reader::items(s) {
-        return false;
-    }
-    if 4096 < reader::rows(s) {
-        return false;
-    }
-    reader::links(s) <= 2048
+    s.classes() <= 1024 && s.items() <= 1024 && s.rows() <= 4096 && s.links() <= 2048
 }

@@ -1,7 +1,0 @@
--- The class cap is a number of the header.
-use Rattle.meaning.specs.SummaryFile.{summary_in}
-use Rattle.reader.proofs.class_cap.Goals as goal
-
-pub returns : goal.returns
-unfolding summary_in
-returns c = c.head.ensures
