@@ -2,7 +2,7 @@
 // meaning for the kinds and the table of entries.
 #![tactic(auto)]
 
-ghost use Rattle.std.specs.Prelude.{◌≡◌, ◌≤◌, ◌-◌, nat_abs, eqb};
+ghost use Rattle.std.specs.Prelude.{IfSome, length, ◌/◌, ◌<◌, ◌≡◌, ◌≤◌, ◌-◌, nat_abs, eqb};
 ghost use Rattle.meaning.specs.WellFormed.{within};
 ghost use Rattle.meaning.specs.Question.{bit};
 ghost use Rattle.meaning.specs.Question as trees;
@@ -87,7 +87,8 @@ fn by_code(code: u8, second: u8) -> Option<Kind>
 
 // Entry number `at`, "read as one of six kinds with its parameters", or none where it is malformed: "Bytes three and four are 0."
 pub fn read(q: &[u8], at: usize) -> Option<Kind>
-    ensures { kind_of result ≡ entry_at q.now at }
+    ensures entry { kind_of result ≡ entry_at q.now at }
+    ensures within { IfSome result (λ k. at < length q.now / 4) }
 {
     if q.len() / 4 <= at {
         return None;
