@@ -12,6 +12,7 @@ use mir.Syntax.{w8}
 use mir.Val.{to_z, of_z, SFits}
 use mir.Facts.{to_z-of_z}
 use borrow.Author.Tests.{leb-true}
+use Rattle.std.proofs.Common.{Option as Read, Some, None}
 use Rattle.meaning.specs.WellFormed.{within}
 use Rattle.meaning.specs.declared.Direction.{Direction}
 use Rattle.meaning.specs.declared.Direction.TheVariants.{Outgoing, Incoming}
@@ -19,8 +20,6 @@ use Rattle.meaning.specs.declared.Kind.{Kind}
 use Rattle.meaning.specs.declared.Kind.TheVariants.{True, Literal, Not, And, Or, AtLeast}
 use Rattle.meaning.specs.QuestionFile.{signed, when, kind}
 use Rattle.theory.proofs.CountLaws.{by_bool, and_inv}
-use Rattle.entry.specs.declared.Reading.{Reading}
-use Rattle.entry.specs.declared.Reading.TheVariants.{Entry, Malformed}
 use Rattle.entry.specs.Entries.{kind_of, entry_at}
 
 pub clash : {k : Kind} → none ≡ some k → ⊥
@@ -40,10 +39,10 @@ within_question q i k e =
     (λ f. absurd (clash (rw f at e)))
 
 -- s is what the code read at entry i, and k the kind in it
-pub is_entry : (q : List ℕ) (i : ℕ) (s : Reading) (k : Kind) → kind_of s ≡ entry_at q i → s ≡ Entry k → entry_at q i ≡ some k
+pub is_entry : (q : List ℕ) (i : ℕ) (s : Read Kind) (k : Kind) → kind_of s ≡ entry_at q i → s ≡ Some k → entry_at q i ≡ some k
 is_entry q i s k e f = sym e ∙ ap kind_of f
 
-pub within_entry : (q : List ℕ) (i : ℕ) (s : Reading) (k : Kind) → kind_of s ≡ entry_at q i → s ≡ Entry k → i < length q / 4
+pub within_entry : (q : List ℕ) (i : ℕ) (s : Read Kind) (k : Kind) → kind_of s ≡ entry_at q i → s ≡ Some k → i < length q / 4
 within_entry q i s k e f = within_question q i k (is_entry q i s k e f)
 
 -- "k is 1 to 32", "label (byte − 16)", "t, 1 to 8"
@@ -119,8 +118,8 @@ least_read q i e = kind_read q i e
 
 -- ---- one answer only
 
-pub one_reading : (a b : Reading) → kind_of a ≡ kind_of b → a ≡ b
-one_reading (Entry k) (Entry m) e = let f : k ≡ m = cc in ap Entry f
-one_reading (Entry k) Malformed e = absurd (clash (sym e))
-one_reading Malformed (Entry m) e = absurd (clash e)
-one_reading Malformed Malformed e = refl
+pub one_reading : (a b : Read Kind) → kind_of a ≡ kind_of b → a ≡ b
+one_reading (Some k) (Some m) e = let f : k ≡ m = cc in cc
+one_reading (Some k) None e = absurd (clash (sym e))
+one_reading None (Some m) e = absurd (clash e)
+one_reading None None e = refl

@@ -2,7 +2,7 @@
 // meaning for the kinds and the table of entries.
 #![tactic(auto)]
 
-ghost use Rattle.std.specs.Prelude.{◌≡◌, ◌≤◌, ◌-◌, nat_abs, eqb};
+ghost use Rattle.std.specs.Prelude.{IfSome, length, ◌/◌, ◌<◌, ◌≡◌, ◌≤◌, ◌-◌, nat_abs, eqb};
 ghost use Rattle.meaning.specs.WellFormed.{within};
 ghost use Rattle.meaning.specs.Question.{bit};
 ghost use Rattle.meaning.specs.Question as trees;
@@ -12,13 +12,6 @@ ghost use Rattle.meaning.specs.QuestionFile as file;
 ghost use Rattle.entry.specs.Entries.{kind_of, entry_at};
 
 use meaning::{Direction, Kind};
-
-// "An entry is read as one of six kinds with its parameters, or the question is refused."
-#[derive(Clone, Copy)]
-pub enum Reading {
-    Entry(Kind),
-    Malformed,
-}
 
 // "signed": the byte as a number from −128 to 127.
 fn signed(b: u8) -> i8
@@ -32,56 +25,52 @@ fn signed(b: u8) -> i8
 }
 
 // "k is 1 to 32", or −k: 0 and −128 are refused first, and −128 has no k.
-fn literal(k: i8) -> Reading
+fn literal(k: i8) -> Option<Kind>
     ensures { kind_of result ≡ when (within 1 (nat_abs k) 32) (kinds.Literal k) }
 {
     if k == 0 {
-        return Reading::Malformed;
+        return None;
     }
     if k == -128 {
-        return Reading::Malformed;
+        return None;
     }
     if k < -32 {
-        return Reading::Malformed;
+        return None;
     }
     if k <= 32 {
-        Reading::Entry(Kind::Literal(k))
+        Some(Kind::Literal(k))
     } else {
-        Reading::Malformed
+        None
     }
 }
 
 // True, not, and, or: the second byte is 0.
-fn plain(kind: Kind, second: u8) -> Reading
+fn plain(kind: Kind, second: u8) -> Option<Kind>
     ensures { kind_of result ≡ when (eqb second 0) kind }
 {
-    if second == 0 {
-        Reading::Entry(kind)
-    } else {
-        Reading::Malformed
-    }
+    if second == 0 { Some(kind) } else { None }
 }
 
 // "t, 1 to 8".
-fn at_least(direction: Direction, label: u8, threshold: u8) -> Reading
+fn at_least(direction: Direction, label: u8, threshold: u8) -> Option<Kind>
     ensures { kind_of result ≡ when (within 1 threshold 8) (kinds.AtLeast direction label threshold) }
 {
     if threshold < 1 {
-        return Reading::Malformed;
+        return None;
     }
     if threshold <= 8 {
-        Reading::Entry(Kind::AtLeast {
+        Some(Kind::AtLeast {
             direction,
             label,
             threshold,
         })
     } else {
-        Reading::Malformed
+        None
     }
 }
 
 // "at least t outgoing neighbours by label (byte − 16) satisfy the operand": by the first byte, and "All else is malformed."
-fn by_code(code: u8, second: u8) -> Reading
+fn by_code(code: u8, second: u8) -> Option<Kind>
     ensures { kind_of result ≡ kind code second }
 {
     match code {
@@ -92,23 +81,24 @@ fn by_code(code: u8, second: u8) -> Reading
         4 => plain(Kind::Or, second),
         16..=31 => at_least(Direction::Outgoing, code - 16, second),
         32..=47 => at_least(Direction::Incoming, code - 32, second),
-        _ => Reading::Malformed,
+        _ => None,
     }
 }
 
-// Entry number `at`: "Bytes three and four are 0."
-pub fn read(q: &[u8], at: usize) -> Reading
-    ensures { kind_of result ≡ entry_at q.now at }
+// Entry number `at`, "read as one of six kinds with its parameters", or none where it is malformed: "Bytes three and four are 0."
+pub fn read(q: &[u8], at: usize) -> Option<Kind>
+    ensures entry { kind_of result ≡ entry_at q.now at }
+    ensures within { IfSome result (λ k. at < length q.now / 4) }
 {
     if q.len() / 4 <= at {
-        return Reading::Malformed;
+        return None;
     }
     let i = 4 * at;
     if q[i + 2] != 0 {
-        return Reading::Malformed;
+        return None;
     }
     if q[i + 3] != 0 {
-        return Reading::Malformed;
+        return None;
     }
     by_code(q[i], q[i + 1])
 }

@@ -8,7 +8,6 @@ use Rattle.memo.proofs.decides.Symbol as decides-symbol
 use Rattle.memo.proofs.recalled.Symbol as recalled-symbol
 use Rattle.memo.proofs.remember.Symbol as remember-symbol
 use Rattle.memo.proofs.slot_of.Symbol as slot_of-symbol
-use Rattle.memo.proofs.turned.Symbol as turned-symbol
 
 abbrev pub table : Tree
 table = TheLink.table
@@ -30,6 +29,3 @@ has-remember = TheLink.linked-memo::remember
 
 pub has-slot_of : Found slot_of-symbol.code
 has-slot_of = TheLink.linked-memo::slot_of
-
-pub has-turned : Found turned-symbol.code
-has-turned = TheLink.linked-memo::turned

@@ -1,17 +1,14 @@
 -- What was found of an entry at a place, and what is kept of it: 0 for not known, 1 for no, 2 for yes, each entry with 1,024 places of its own.
 -- Leans on question's trees.
-use Rattle.std.specs.Prelude.{ℕ, ◌+◌, ◌*◌, ◌≤◌, ◌<◌, ◌≡◌, Bool, true, false, not, cond, List, ◌⊎◌, ltb, length, get_or}
+use Rattle.std.specs.Prelude.{Option, Some, None, eqb, ℕ, ◌+◌, ◌*◌, ◌≤◌, ◌<◌, ◌≡◌, Bool, true, false, not, cond, List, ◌⊎◌, ltb, length, get_or}
 use Rattle.meaning.specs.declared.Kind.{Kind}
 use Rattle.meaning.specs.declared.Kind.TheVariants.{True, Literal, Not, And, Or, AtLeast}
 use Rattle.meaning.specs.Question.{Question}
 use Rattle.question.specs.Read.{Parsed}
-use Rattle.question.specs.declared.Asked.{Asked}
-use Rattle.question.specs.declared.Asked.TheVariants.{Said, Refused}
 
--- "not, one operand"
-abbrev pub turned : Asked → Asked
-turned (Said b) = Said (not b)
-turned (Refused r) = Refused r
+-- what is said of the tree at entry i is so, where a tree's truth is given
+abbrev pub Says : List ℕ → ℕ → (Question → Bool) → Bool → Type 0
+Says q i so b = (t : Question) (k : ℕ) → Parsed q i t k → b ≡ so t
 
 -- of the two operands of an entry one is enough
 abbrev pub any : Kind → Bool
@@ -23,13 +20,16 @@ any Or = true
 any (AtLeast d l n) = false
 
 -- "and, or": whether the first operand decides
-abbrev pub decides : Kind → Asked → Bool
-decides k (Said b) = cond (any k) b (not b)
-decides k (Refused r) = true
+abbrev pub decides : Kind → Bool → Bool
+decides k b = cond (any k) b (not b)
 
 abbrev pub tell : Bool → ℕ
 tell true = 2
 tell false = 1
+
+-- what is known by what is kept
+abbrev pub recalled : ℕ → Option Bool
+recalled n = cond (eqb n 0) None (Some (eqb n 2))
 
 -- where it is kept what the tree at entry i says at place x
 abbrev pub slot : ℕ → ℕ → ℕ

@@ -7,28 +7,14 @@ ghost use Rattle.memo.specs.Kept.{tell, slot};
 ghost use Rattle.memo.specs.Kept as kept;
 
 use meaning::Kind;
-use question::Asked;
-
-// "not, one operand".
-pub fn turned(operand: Asked) -> Asked
-    ensures { result ≡ kept.turned operand }
-{
-    let Asked::Said(yes) = operand else {
-        return operand;
-    };
-    Asked::Said(!yes)
-}
 
 // "and, or, two operands": whether the first one's answer is the whole's, so that the second need not be asked.
-pub fn decides(kind: Kind, first: Asked) -> bool
+pub fn decides(kind: Kind, first: bool) -> bool
     ensures { result ≡ kept.decides kind first }
 {
-    let Asked::Said(yes) = first else {
-        return true;
-    };
     match kind {
-        Kind::Or => yes,
-        _ => !yes,
+        Kind::Or => first,
+        _ => !first,
     }
 }
 
@@ -44,11 +30,17 @@ pub fn slot_of(at: usize, place: u16) -> usize
     }
 }
 
-// 0 for not known, 1 for no, 2 for yes; beyond the end nothing is known.
-pub fn recalled(known: &[u8], slot: usize) -> u8
-    ensures { result ≡ get_or known.now slot 0 }
+// Whether it holds there, where that is known; beyond the end nothing is.
+pub fn recalled(known: &[u8], slot: usize) -> Option<bool>
+    ensures { result ≡ kept.recalled (get_or known.now slot 0) }
 {
-    if slot < known.len() { known[slot] } else { 0 }
+    if known.len() <= slot {
+        return None;
+    }
+    match known[slot] {
+        0 => None,
+        told => Some(told == 2),
+    }
 }
 
 // Kept, where there is room.
@@ -60,7 +52,7 @@ pub fn remember(known: &mut [u8], slot: usize, yes: bool)
     }
 }
 
-// What stands for a truth.
+// What stands for a truth; 0 is for what is not known.
 fn code_of(yes: bool) -> u8
     ensures { result ≡ tell yes }
 {

@@ -10,6 +10,7 @@ use lib.IntN.{ℤ}
 use lib.Dec.{eqb, leb}
 use lib.ListN.{length, get_or, length-append}
 use borrow.Author.Tests.{le-leb, lt-leb, leb-true, leb-false}
+use Rattle.std.proofs.Common.{Result, Ok, Err}
 use Rattle.meaning.specs.Question.{Question, always, literal, negation, both, either, at_least, depth, threshold}
 use Rattle.meaning.specs.Reading.{entries_of}
 use Rattle.meaning.specs.declared.Direction.{Direction}
@@ -21,10 +22,6 @@ use Rattle.theory.proofs.CountLaws.{by_bool, by_eq}
 use Rattle.theory.proofs.ReadingLaws.{tree_sound, tree_complete}
 use Rattle.entry.specs.Entries.{entry_at}
 use Rattle.entry.proofs.Laws.{same_kind, within_question}
-use Rattle.question.specs.declared.Asked.{Asked}
-use Rattle.question.specs.declared.Asked.TheVariants as asks
-use Rattle.question.specs.declared.Filled.{Filled}
-use Rattle.question.specs.declared.Filled.TheVariants as fills
 use Rattle.question.specs.Read.{Parsed, p_true, p_literal, p_not, p_and, p_or, p_least, accepted, refused, verdict_by, verdict}
 
 -- ---- where a tree that stands at an entry ends
@@ -331,11 +328,8 @@ verdict_refused q k e = refuses (question q) k e
 
 -- ---- what is said is said once, and is not refused
 
-pub said_one : (a : Asked) (s t : Bool) → a ≡ asks.Said s → a ≡ asks.Said t → s ≡ t
-said_one a s t e f = cc
+pub said_one : {A : Type 0} (r : Result A Refusal) (s t : A) → r ≡ Ok s → r ≡ Ok t → s ≡ t
+said_one r s t e f = cc
 
-pub not_refused : (a : Asked) (s : Bool) (r : Refusal) → a ≡ asks.Said s → a ≡ asks.Refused r → ⊥
-not_refused a s r e f = let z : ◌≡◌ {A = ℕ} 0 1 = cc in omega arith
-
-pub done_not_refused : (f : Filled) (r : Refusal) → f ≡ fills.Done → f ≡ fills.Refused r → ⊥
-done_not_refused f r e g = let z : ◌≡◌ {A = ℕ} 0 1 = cc in omega arith
+pub not_refused : {A : Type 0} (r : Result A Refusal) (s : A) (k : Refusal) → r ≡ Ok s → r ≡ Err k → ⊥
+not_refused r s k e f = cc

@@ -1,6 +1,6 @@
 -- What each step of the recursion over prefix entries comes to, and what the verdict is by what the recursion tells of entry 0.
 -- Leans on Laws.
-use mathlib.Core.Path.{◌≡◌, refl, sym, ap, subst, ◌∙◌}
+use mathlib.Core.Path.{◌≡◌, refl, sym, ap, ap₂, subst, ◌∙◌}
 use mathlib.Core.Logic.{◌⊎◌, inl, inr}
 use mathlib.Core.List.{List}
 use mathlib.Core.Option.{Option, none, some}
@@ -9,6 +9,7 @@ use native.Mathlib.Omega.{arith}
 use native.Mathlib.Numerals.{add-one}
 use lib.IntN.{ℤ}
 use lib.ListN.{length}
+use Rattle.std.proofs.Common.{Result, Ok, Err}
 use Rattle.meaning.specs.Question.{Question, always, literal, negation, both, either, at_least, depth, threshold}
 use Rattle.meaning.specs.declared.Direction.{Direction}
 use Rattle.meaning.specs.declared.Kind.{Kind}
@@ -16,13 +17,10 @@ use Rattle.meaning.specs.declared.Kind.TheVariants.{True, Literal, Not, And, Or,
 use Rattle.meaning.specs.QuestionFile.{question}
 use Rattle.meaning.specs.declared.Refusal.{Refusal}
 use Rattle.meaning.specs.declared.Refusal.TheVariants.{Question as Malformation}
-use Rattle.entry.specs.declared.Reading.{Reading}
-use Rattle.entry.specs.declared.Reading.TheVariants.{Malformed}
-use Rattle.entry.specs.Entries.{kind_of, entry_at}
+use Rattle.entry.specs.Entries.{entry_at}
 use Rattle.entry.proofs.Laws.{clash}
-use Rattle.question.specs.declared.Spanned.{Spanned}
-use Rattle.question.specs.declared.Spanned.TheVariants.{Tree, Refused}
-use Rattle.question.specs.Read.{Parsed, p_true, p_literal, p_not, p_and, p_or, p_least, Spans, joined, raised, Shallow, accepted, refused, verdict_by, verdict}
+use Rattle.question.specs.declared.Tree.{Tree}
+use Rattle.question.specs.Read.{Parsed, p_true, p_literal, p_not, p_and, p_or, p_least, Spans, joined, raised, accepted, refused, verdict_by, verdict}
 use Rattle.question.proofs.Laws.{reads_first, forward, ends, shallow, under, parsed_one, parsed_question, question_length, question_parsed}
 
 -- ---- kinds by their tags, as a pattern of two kinds tells them
@@ -36,58 +34,70 @@ Two k = (k ≡ And) ⊎ (k ≡ Or)
 -- ---- a step of the recursion, by the kind of the entry
 
 module _ (q : List ℕ) (i : ℕ) where
-  pub s_none : (s : Reading) → kind_of s ≡ entry_at q i → s ≡ Malformed → Spans q i (Refused Malformation)
+  pub s_none : none ≡ entry_at q i → Spans q i (Err Malformation)
   unfolding Spans
-  s_none s e f = (refl, λ t j p. clash (ap kind_of (sym f) ∙ e ∙ (reads_first p).1))
+  s_none e = (refl, λ t j p. clash (e ∙ (reads_first p).1))
 
-  pub s_leaf : (k : Kind) → Leaf k → entry_at q i ≡ some k → Spans q i (Tree 0 0 (i + 1))
+  pub s_leaf : (k : Kind) → Leaf k → entry_at q i ≡ some k → Spans q i (Ok (record { depth = 0; threshold = 0; next = i + 1 }))
   unfolding Spans depth threshold
   s_leaf k (inl h) e = (always, p_true (e ∙ ap some h), refl, refl)
   s_leaf k (inr (z, h)) e = (literal z, p_literal (e ∙ ap some h), refl, refl)
 
-  pub s_not : (r : Spanned) → entry_at q i ≡ some Not → Spans q (i + 1) r → Spans q i r
+  pub s_not : (r : Result Tree Refusal) → entry_at q i ≡ some Not → Spans q (i + 1) r → Spans q i r
   unfolding Spans depth threshold
-  s_not (Tree d t n) e (u, p, f, g) = (negation u, p_not e p, f, g)
-  s_not (Refused r) e (f, g) = (f, λ u n p. g _ n (under p e).2)
+  s_not (Ok s) e (u, p, f, g) = (negation u, p_not e p, f, g)
+  s_not (Err r) e (f, g) = (f, λ u n p. g _ n (under p e).2)
 
-  pub s_least : {d : Direction} {l t : ℕ} (r : Spanned) → entry_at q i ≡ some (AtLeast d l t) → Spans q (i + 1) r → Spans q i (raised t r)
+  pub s_least : {d : Direction} {l t : ℕ} (s : Tree) → entry_at q i ≡ some (AtLeast d l t) → Spans q (i + 1) (Ok s) → Spans q i (Ok (raised t s))
   unfolding Spans depth threshold
-  s_least {d} {l} {t} (Tree a b n) e (u, p, f, g) = (at_least d l t u, p_least e p, rw (f, add-one a), rw g)
-  s_least (Refused r) e (f, g) = (f, λ u n p. g _ n (under p e).2)
+  s_least {d} {l} {t} s e (u, p, f, g) = (at_least d l t u, p_least e p, rw (f, add-one s.depth), rw g)
 
-  pub s_two : (k : Kind) (a b m : ℕ) (r : Spanned) → Two k → entry_at q i ≡ some k → Spans q (i + 1) (Tree a b m) → Spans q m r →
-      Spans q i (joined a b r)
-  unfolding Spans depth threshold
-  s_two k a b m (Tree d t n) (inl h) e (u, p, f, g) (v, w, x, y) = (both u v, p_and (e ∙ ap some h) p w, rw (f, x), rw (g, y))
-  s_two k a b m (Tree d t n) (inr h) e (u, p, f, g) (v, w, x, y) = (either u v, p_or (e ∙ ap some h) p w, rw (f, x), rw (g, y))
-  s_two k a b m (Refused r) (inl h) e (u, p, f, g) (x, y) =
-      (x, λ v n w. let z = under w (e ∙ ap some h) in y z.1 n (subst (λ (c : ℕ). Parsed q c z.1 n) (parsed_one z.4 p).1 z.5))
-  s_two k a b m (Refused r) (inr h) e (u, p, f, g) (x, y) =
-      (x, λ v n w. let z = under w (e ∙ ap some h) in y z.1 n (subst (λ (c : ℕ). Parsed q c z.1 n) (parsed_one z.4 p).1 z.5))
-
-  pub s_two_none : (k : Kind) (r : Refusal) → Two k → entry_at q i ≡ some k → Spans q (i + 1) (Refused r) → Spans q i (Refused Malformation)
+  pub s_least_none : {d : Direction} {l t : ℕ} (r : Refusal) → entry_at q i ≡ some (AtLeast d l t) → Spans q (i + 1) (Err r) → Spans q i (Err Malformation)
   unfolding Spans
-  s_two_none k r (inl h) e (x, y) = (refl, λ v n w. y _ _ (under w (e ∙ ap some h)).4)
-  s_two_none k r (inr h) e (x, y) = (refl, λ v n w. y _ _ (under w (e ∙ ap some h)).4)
+  s_least_none r e (f, g) = (refl, λ u n p. g _ n (under p e).2)
+
+  pub s_two : (k : Kind) (s v : Tree) → Two k → entry_at q i ≡ some k → Spans q (i + 1) (Ok s) → Spans q s.next (Ok v) → Spans q i (Ok (joined s v))
+  unfolding Spans depth threshold
+  s_two k s v (inl h) e (u, p, f, g) (w, r, x, y) = (both u w, p_and (e ∙ ap some h) p r, rw (f, x), rw (g, y))
+  s_two k s v (inr h) e (u, p, f, g) (w, r, x, y) = (either u w, p_or (e ∙ ap some h) p r, rw (f, x), rw (g, y))
+
+  -- no first operand, or no second
+  pub s_first_none : (k : Kind) (r : Refusal) → Two k → entry_at q i ≡ some k → Spans q (i + 1) (Err r) → Spans q i (Err Malformation)
+  unfolding Spans
+  s_first_none k r (inl h) e (x, y) = (refl, λ v n w. y _ _ (under w (e ∙ ap some h)).4)
+  s_first_none k r (inr h) e (x, y) = (refl, λ v n w. y _ _ (under w (e ∙ ap some h)).4)
+
+  pub s_second_none : (k : Kind) (s : Tree) (r : Refusal) → Two k → entry_at q i ≡ some k → Spans q (i + 1) (Ok s) → Spans q s.next (Err r) →
+      Spans q i (Err Malformation)
+  unfolding Spans
+  s_second_none k s r (inl h) e (u, p, f, g) (x, y) =
+      (refl, λ v n w. let z = under w (e ∙ ap some h) in y z.1 n (subst (λ (c : ℕ). Parsed q c z.1 n) (parsed_one z.4 p).1 z.5))
+  s_second_none k s r (inr h) e (u, p, f, g) (x, y) =
+      (refl, λ v n w. let z = under w (e ∙ ap some h) in y z.1 n (subst (λ (c : ℕ). Parsed q c z.1 n) (parsed_one z.4 p).1 z.5))
 
   -- what is told of a tree's numbers
-  pub s_bounds : (d t n : ℕ) → Spans q i (Tree d t n) → (i < n) × (n ≤ length q / 4)
+  pub s_bounds : (s : Tree) → Spans q i (Ok s) → (i < s.next) × (s.next ≤ length q / 4)
   unfolding Spans
-  s_bounds d t n (u, p, f, g) = (forward p, ends p)
+  s_bounds s (u, p, f, g) = (forward p, ends p)
 
-  pub s_shallow : (r : Spanned) → Spans q i r → Shallow r
+  pub s_shallow : (s : Tree) → Spans q i (Ok s) → s.depth < s.next
   unfolding Spans
-  s_shallow (Tree d t n) (u, p, f, g) = omega (arith, shallow p)
-  s_shallow (Refused r) h = tt
+  s_shallow s (u, p, f, g) = omega (arith, shallow p)
 
 -- ---- one answer only
 
-pub one_span : (q : List ℕ) (i : ℕ) (a b : Spanned) → Spans q i a → Spans q i b → a ≡ b
+same_tree : (s v : Tree) → s.depth ≡ v.depth → s.threshold ≡ v.threshold → s.next ≡ v.next → s ≡ v
+same_tree s v e f g =
+    ap₂ (λ (d t : ℕ). record s { depth = d; threshold = t }) e f ∙ ap (λ (n : ℕ). record v { next = n }) g
+
+pub one_span : (q : List ℕ) (i : ℕ) (a b : Result Tree Refusal) → Spans q i a → Spans q i b → a ≡ b
 unfolding Spans
-one_span q i (Tree d t n) (Tree a b m) (u, p, f, g) (v, r, x, y) = let w = parsed_one p r in cc (ap depth w.0, ap threshold w.0, w.1)
-one_span q i (Tree d t n) (Refused s) (u, p, f, g) h = absurd (h.1 u n p)
-one_span q i (Refused r) (Tree a b m) h (v, p, x, y) = absurd (h.1 v m p)
-one_span q i (Refused r) (Refused s) h k = ap Refused (h.0 ∙ sym k.0)
+one_span q i (Ok s) (Ok v) (u, p, f, g) (w, r, x, y) =
+    let o = parsed_one p r in
+    ap Ok (same_tree s v (sym f ∙ ap depth o.0 ∙ x) (sym g ∙ ap threshold o.0 ∙ y) o.1)
+one_span q i (Ok s) (Err r) (u, p, f, g) h = absurd (h.1 u s.next p)
+one_span q i (Err r) (Ok s) h (u, p, f, g) = absurd (h.1 u s.next p)
+one_span q i (Err r) (Err s) h k = ap Err (h.0 ∙ sym k.0)
 
 -- ---- the verdict
 
@@ -105,15 +115,15 @@ module _ (q : List ℕ) where
   unfolding verdict
   too_many h = verdict_none (question q) (λ t e. omega (arith, question_length q t e))
 
-  pub no_tree : (r : Refusal) → Spans q 0 (Refused r) → refused 5 ≡ verdict q
+  pub no_tree : (r : Refusal) → Spans q 0 (Err r) → refused 5 ≡ verdict q
   unfolding verdict Spans
   no_tree r h = verdict_none (question q) (λ t e. h.1 t _ (parsed_question q t e))
 
-  module _ (d t n : ℕ) (h : Spans q 0 (Tree d t n)) where
-    pub remains : (n ≡ length q / 4 → ⊥) → refused 5 ≡ verdict q
+  module _ (s : Tree) (h : Spans q 0 (Ok s)) where
+    pub remains : (s.next ≡ length q / 4 → ⊥) → refused 5 ≡ verdict q
     unfolding verdict Spans
     remains f = verdict_none (question q) (λ u e. f (parsed_one h.1 (parsed_question q u e)).1)
 
-    pub whole : length q % 4 ≡ 0 → length q / 4 ≤ 64 → n ≡ length q / 4 → accepted d t ≡ verdict q
+    pub whole : length q % 4 ≡ 0 → length q / 4 ≤ 64 → s.next ≡ length q / 4 → accepted s.depth s.threshold ≡ verdict q
     unfolding verdict verdict_by Spans
-    whole f g e = sym (rw (question_parsed q h.0 n (omega arith) (omega arith) h.1, h.2, h.3))
+    whole f g e = sym (rw (question_parsed q h.0 s.next (omega arith) (omega arith) h.1, h.2, h.3))

@@ -2,46 +2,28 @@
 // what is read of four bytes, and on meaning for the kinds and the refusals.
 #![tactic(auto)]
 
-ghost use Rattle.std.specs.Prelude.{◌≡◌, max};
-ghost use Rattle.question.specs.Read.{Spans, Shallow, verdict, told};
+ghost use Rattle.std.specs.Prelude.{◌≡◌, ◌<◌, max};
+ghost use Rattle.question.specs.Read.{Spans, verdict, told};
 ghost use Rattle.question.specs.Read as read;
 
-use entry::Reading;
 use meaning::{Kind, Refusal};
 
 // "A question is 1 to 64 entries of four bytes".
 const MOST_ENTRIES: usize = 64;
 
-// The depth and the greatest threshold of the tree that stands at an entry, and the entry after it.
+// The tree that stands at an entry: its depth, its greatest threshold, and the entry after it.
 #[derive(Clone, Copy)]
-pub enum Spanned {
-    Tree {
-        depth: usize,
-        threshold: usize,
-        next: usize,
-    },
-    Refused(Refusal),
+pub struct Tree {
+    pub depth: usize,
+    pub threshold: usize,
+    pub next: usize,
 }
 
-// The depth and the greatest threshold of a well-formed question.
+// What a question needs of a summary: its depth and its greatest threshold.
 #[derive(Clone, Copy)]
-pub enum Judged {
-    Accepted { depth: usize, threshold: usize },
-    Refused(Refusal),
-}
-
-// Whether a question holds where it was asked.
-#[derive(Clone, Copy)]
-pub enum Asked {
-    Said(bool),
-    Refused(Refusal),
-}
-
-// Whether a question was answered everywhere.
-#[derive(Clone, Copy)]
-pub enum Filled {
-    Done,
-    Refused(Refusal),
+pub struct Needs {
+    pub depth: usize,
+    pub threshold: usize,
 }
 
 fn greater(a: usize, b: usize) -> usize
@@ -50,99 +32,81 @@ fn greater(a: usize, b: usize) -> usize
     if a < b { b } else { a }
 }
 
-// "the others have the greatest of their operands' depths": the first operand's numbers, with what is told of the second.
-fn joined(left: usize, above: usize, second: Spanned) -> Spanned
-    ensures { result ≡ read.joined left above second }
+// "the others have the greatest of their operands' depths".
+fn joined(first: Tree, second: Tree) -> Tree
+    ensures { result ≡ read.joined first second }
 {
-    let Spanned::Tree {
-        depth,
-        threshold,
-        next,
-    } = second
-    else {
-        return second;
-    };
-    Spanned::Tree {
-        depth: greater(left, depth),
-        threshold: greater(above, threshold),
-        next,
+    Tree {
+        depth: greater(first.depth, second.depth),
+        threshold: greater(first.threshold, second.threshold),
+        next: second.next,
     }
 }
 
 // "The depth of an at-least entry is one more than its operand's depth".
-fn raised(least: usize, operand: Spanned) -> Spanned
-    requires { Shallow operand }
+fn raised(least: usize, operand: Tree) -> Tree
+    requires { operand.depth < operand.next }
     ensures { result ≡ read.raised least operand }
 {
-    let Spanned::Tree {
-        depth,
-        threshold,
-        next,
-    } = operand
-    else {
-        return operand;
-    };
-    Spanned::Tree {
-        depth: depth + 1,
-        threshold: greater(least, threshold),
-        next,
+    Tree {
+        depth: operand.depth + 1,
+        threshold: greater(least, operand.threshold),
+        next: operand.next,
     }
 }
 
 // The tree that stands at entry `at`, "root first, each operator followed by its operands". The entries left fall.
-pub fn span(q: &[u8], at: usize) -> Spanned
+pub fn span(q: &[u8], at: usize) -> Result<Tree, Refusal>
     ensures { Spans q.now at result }
 {
-    let Reading::Entry(kind) = entry::read(q, at) else {
-        return Spanned::Refused(Refusal::Question);
+    let Some(kind) = entry::read(q, at) else {
+        return Err(Refusal::Question);
     };
     match kind {
-        Kind::True | Kind::Literal(_) => Spanned::Tree {
+        Kind::True | Kind::Literal(_) => Ok(Tree {
             depth: 0,
             threshold: 0,
             next: at + 1,
-        },
+        }),
         Kind::Not => span(q, at + 1),
         Kind::And | Kind::Or => {
-            let Spanned::Tree {
-                depth,
-                threshold,
-                next,
-            } = span(q, at + 1)
-            else {
-                return Spanned::Refused(Refusal::Question);
+            let Ok(first) = span(q, at + 1) else {
+                return Err(Refusal::Question);
             };
-            joined(depth, threshold, span(q, next))
+            let Ok(second) = span(q, first.next) else {
+                return Err(Refusal::Question);
+            };
+            Ok(joined(first, second))
         }
-        Kind::AtLeast {
-            direction: _,
-            label: _,
-            threshold,
-        } => raised(threshold as usize, span(q, at + 1)),
+        Kind::AtLeast { threshold, .. } => {
+            let Ok(operand) = span(q, at + 1) else {
+                return Err(Refusal::Question);
+            };
+            Ok(raised(threshold as usize, operand))
+        }
     }
 }
 
 // "1 to 64 entries of four bytes, root first, each operator followed by its operands; nothing may remain."
-pub fn judge(q: &[u8]) -> Judged
+pub fn judge(q: &[u8]) -> Result<Needs, Refusal>
     ensures { told result ≡ verdict q.now }
 {
     let entries = q.len() / 4;
     if q.len() % 4 != 0 {
-        return Judged::Refused(Refusal::Question);
+        return Err(Refusal::Question);
     }
     if MOST_ENTRIES < entries {
-        return Judged::Refused(Refusal::Question);
+        return Err(Refusal::Question);
     }
-    let Spanned::Tree {
-        depth,
-        threshold,
-        next,
-    } = span(q, 0)
-    else {
-        return Judged::Refused(Refusal::Question);
+    let Ok(tree) = span(q, 0) else {
+        return Err(Refusal::Question);
     };
-    if next != entries {
-        return Judged::Refused(Refusal::Question);
+    if tree.next != entries {
+        return Err(Refusal::Question);
     }
-    Judged::Accepted { depth, threshold }
+    let needs = Needs {
+        depth: tree.depth,
+        threshold: tree.threshold,
+    };
+    Ok(needs)
 }

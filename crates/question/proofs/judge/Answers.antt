@@ -1,7 +1,5 @@
 -- `judge` gives document 01's verdict: each way out is the case of `verdict` that the tests before it leave.
-use mathlib.Core.Path.{subst}
 use native.Mathlib.Omega.{arith}
-use Rattle.question.specs.Read.{Spans}
 use Rattle.question.proofs.Steps.{not_fours, too_many, no_tree, remains, whole}
 use Rattle.question.proofs.judge.Goals as goal
 
@@ -12,13 +10,10 @@ pub returns-then-entries-gt-MOST_ENTRIES : goal.returns-then-entries-gt-MOST_ENT
 returns-then-entries-gt-MOST_ENTRIES c = too_many _ (omega arith)
 
 pub returns-in_default : goal.returns-in_default
-returns-in_default c = no_tree _ _ (subst (Spans _ _) c.in_default.is c.span.ensures)
+returns-in_default c = no_tree _ _ c.in_default.ensures
 
-pub returns-then-next-entries : goal.returns-then-next-entries
-returns-then-next-entries c =
-    remains _ _ _ _ (subst (Spans _ _) c.in-Tree.is c.span.ensures) (λ e. omega arith)
+pub returns-then-tree-entries : goal.returns-then-tree-entries
+returns-then-tree-entries c = remains _ _ c.in-Ok.ensures (λ e. omega arith)
 
 pub returns : goal.returns
-returns c =
-    whole _ _ _ _ (subst (Spans _ _) c.in-Tree.is c.span.ensures)
-    c.if-q-ne0.false c.if-entries-gt-MOST_ENTRIES.false c.if-next-entries.false
+returns c = whole _ _ c.in-Ok.ensures c.if-q-ne0.false c.if-entries-gt-MOST_ENTRIES.false c.if-tree-entries.false
