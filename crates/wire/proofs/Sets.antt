@@ -2,12 +2,12 @@
 -- whole answer at the front. `sets d at p` is d with p written over it from place at. Leans on lib.Seq and on meaning's Bytes.
 use mathlib.Core.Path.{◌≡◌, refl, sym, ap, ◌∙◌}
 use mathlib.Core.List.{List, [], ◌∷◌, ◌++◌, append_assoc, append-nil}
-use Prim.Native.Nat.{ℕ, zero, suc, ◌+◌, ◌*◌, ◌≤◌}
+use Prim.Native.Nat.{ℕ, zero, suc, ◌+◌, ◌*◌, ◌≤◌, ◌<◌}
 use native.Mathlib.Omega.{arith}
 use native.Mathlib.Nat.{add-zero, suc-add, add-suc}
 use native.Mathlib.Numerals.{add-one}
 use lib.ListN.{length, get_or, set, take, length-append}
-use lib.Seq.{sets, sets-eq, take-suc}
+use lib.Seq.{sets, sets-eq, take-suc, length-take-le}
 use Rattle.meaning.specs.Count.{tab, join}
 use Rattle.meaning.specs.Bytes.{put2, pack}
 use Rattle.meaning.specs.Answers.{wrote, left}
@@ -37,31 +37,33 @@ unfolding join
 length_records f w size zero = omega arith
 length_records f w size (suc n) = omega (arith, length-append (join f n) (f n), size n, length_records f w size n)
 
+pub pack_append : {A : Type 0} (put : A → List ℕ) (s t : List A) → pack put (s ++ t) ≡ pack put s ++ pack put t
+unfolding pack
+pack_append put [] t = refl
+pack_append put (a ∷ s) t = ap (λ (r : List ℕ). put a ++ r) (pack_append put s t) ∙ sym (append_assoc (put a) (pack put s) (pack put t))
+
+pack_more : {A : Type 0} (put : A → List ℕ) (s : List A) (a : A) → pack put (s ++ (a ∷ [])) ≡ pack put s ++ put a
+unfolding pack
+pack_more put s a = pack_append put s (a ∷ []) ∙ ap (λ (r : List ℕ). pack put s ++ r) (append-nil (put a))
+
 -- records of a list that is made place by place
 pub pack_tab : {A : Type 0} (put : A → List ℕ) (f : ℕ → A) (n : ℕ) → pack put (tab f n) ≡ join (λ k. put (f k)) n
 unfolding pack tab join
 pack_tab put f zero = refl
-pack_tab put f (suc n) = append (tab f n) (f n) ∙ ap (λ (s : List ℕ). s ++ put (f n)) (pack_tab put f n)
-  where
-    append : (s : List _) (a : _) → pack put (s ++ (a ∷ [])) ≡ pack put s ++ put a
-    append [] a = append-nil (put a)
-    append (b ∷ s) a = ap (λ (t : List ℕ). put b ++ t) (append s a) ∙ sym (append_assoc (put b) (pack put s) (put a))
+pack_tab put f (suc n) = pack_more put (tab f n) (f n) ∙ ap (λ (s : List ℕ). s ++ put (f n)) (pack_tab put f n)
 
--- the first n of a list of numbers, as a loop writes them
-unfoldable pub numbered : List ℕ → ℕ → List ℕ
-numbered t k = put2 (get_or t k 0)
+-- ---- numbers, as a loop writes them
 
-pub numbers_size : (t : List ℕ) (n : ℕ) → length (join (numbered t) n) ≡ 2 * n
-unfolding numbered put2
-numbers_size t n = length_records (numbered t) 2 (λ i. refl) n
+pub size_numbers : (s : List ℕ) → length (pack put2 s) ≡ 2 * length s
+unfolding pack put2
+size_numbers [] = omega arith
+size_numbers (v ∷ s) = omega (arith, size_numbers s)
 
-pub numbers_all : (t : List ℕ) (n : ℕ) → n ≤ length t → join (numbered t) n ≡ pack put2 (take n t)
-unfolding numbered tab
-numbers_all t n h = sym (pack_tab put2 (λ k. get_or t k 0) n) ∙ ap (pack put2) (front n h)
-  where
-    front : (n : ℕ) → n ≤ length t → tab (λ k. get_or t k 0) n ≡ take n t
-    front zero h = refl
-    front (suc n) h = ap (λ (s : List ℕ). s ++ (get_or t n 0 ∷ [])) (front n (omega arith)) ∙ sym (take-suc t n 0 (omega arith))
+pub then_number : (d : List ℕ) (at : ℕ) (t : List ℕ) (k : ℕ) {x y : List ℕ} → k < length t →
+    x ≡ sets d at (pack put2 (take k t)) → y ≡ sets x (at + 2 * k) (put2 (get_or t k 0)) → y ≡ sets d at (pack put2 (take (k + 1) t))
+then_number d at t k h e f =
+    let m : at + 2 * k ≡ at + length (pack put2 (take k t)) = omega (arith, size_numbers (take k t), length-take-le k t (omega arith)) in
+    rw (add-one, take-suc t k 0 h, pack_more put2 (take k t) (get_or t k 0)) (then d at (pack put2 (take k t)) (put2 (get_or t k 0)) (at + 2 * k) m e f)
 
 -- ---- a whole answer, from the front: "bytes past that length stay"
 

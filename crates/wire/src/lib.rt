@@ -2,7 +2,7 @@
 // Every file of this library is read and written through these; what a write leaves of a buffer is said by `sets`.
 #![tactic(auto)]
 
-ghost use Rattle.std.specs.Prelude.{◌≡◌, ◌+◌, ◌*◌, ◌≤◌, length, take};
+ghost use Rattle.std.specs.Prelude.{◌≡◌, ◌+◌, ◌*◌, ◌≤◌, length};
 ghost use Rattle.std.proofs.lemmas.List.Edits.{sets};
 ghost use Rattle.meaning.specs.Bytes.{num2, num4, put2, put4, pack};
 
@@ -38,14 +38,12 @@ pub fn put_four(out: &mut [u8], at: usize, v: u32)
     put_two(out, at + 2, (v % 65536) as u16);
 }
 
-// The first n numbers of t, one after another.
-pub fn put_numbers(out: &mut [u8], at: usize, t: &[u16], n: usize)
-    requires { (at + 2 * n ≤ length out.old) × (n ≤ length t.now) }
-    ensures { out.new ≡ sets out.old at (pack put2 (take n t.now)) }
+// The numbers of t, one after another.
+pub fn put_numbers(out: &mut [u8], at: usize, t: &[u16])
+    requires { at + 2 * length t.now ≤ length out.old }
+    ensures { out.new ≡ sets out.old at (pack put2 t.now) }
 {
-    let mut k = 0;
-    while k < n {
-        put_two(out, at + 2 * k, t[k]);
-        k += 1;
+    for (k, v) in t.iter().enumerate() {
+        put_two(out, at + 2 * k, *v);
     }
 }
