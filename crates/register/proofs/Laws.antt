@@ -1,21 +1,17 @@
--- What each step of judging a register comes to, over lists of bytes: the header's fields, the links, the verdict; and what the
--- accessors read. Leans on promise's Access.
-use mathlib.Core.Path.{◌≡◌, sym, ap, ◌∙◌}
-use mathlib.Core.Bool.{true, false, ◌&&◌, and-false}
+-- What an accepted register has, what its links' order and its header's counts come to where it is judged, and what the accessors read,
+-- over lists of bytes. Leans on promise's Access.
+use mathlib.Core.Path.{◌≡◌, refl, sym, ap, ◌∙◌}
 use mathlib.Core.List.{List}
 use Prim.Native.Nat.{ℕ, ◌+◌, ◌*◌, ◌≤◌, ◌<◌}
 use native.Mathlib.Omega.{arith}
-use borrow.Author.Tests.{lt-ltb, le-ltb, eq-eqb, ne_eqb, eqb-true, leb-true}
-use lib.Dec.{eqb, leb}
 use lib.ListN.{length}
 use Rattle.meaning.specs.Count.{tab}
-use Rattle.meaning.specs.Register.{Link, link_of}
-use Rattle.meaning.specs.Bytes.{num2}
-use Rattle.meaning.specs.RegisterFile.{links_offset, register_size, link_at, register_in, headed, links_fine, fault, accepted, refused, verdict_by, verdict}
-use Rattle.theory.proofs.CountLaws.{and_inv}
-use Rattle.promise.proofs.Access.{items_at, links_at, link_at_law, readable}
+use Rattle.meaning.specs.Register.{Link, marks_of, link_of}
+use Rattle.meaning.specs.Bytes.{num2, num4}
+use Rattle.meaning.specs.RegisterFile.{links_offset, register_size, link_at, register_in, links_fine, fault}
+use Rattle.promise.proofs.Access.{items_at, marks_at, links_at, link_at_law, readable}
 use Rattle.links.specs.Order.{in_order}
-use Rattle.register.specs.Told.{OfItems, OfRegister, OfLink}
+use Rattle.register.specs.Accepted.{OfItems, OfRegister, OfLink}
 
 -- ---- what an accepted register has
 
@@ -27,30 +23,8 @@ limits b n m o =
     let r = readable b o.fine in
     (omega (arith, r.few, o.items_are, items_at b), omega (arith, r.few_links, o.links_are, links_at b))
 
--- ---- the header
-
-module _ (b : List ℕ) where
-  pub no_marks : (num2 b 4 ≡ 12 → ⊥) → false ≡ headed b
-  unfolding headed
-  no_marks h = sym (rw (ne_eqb (num2 b 4) 12 h))
-
-  pub no_links : (num2 b 6 ≡ links_offset (num2 b 0) → ⊥) → false ≡ headed b
-  unfolding headed
-  no_links h = sym (rw (ne_eqb (num2 b 6) (links_offset (num2 b 0)) h, and-false))
-
-  pub no_total : (num2 b 8 ≡ register_size (num2 b 0) (num2 b 2) → ⊥) → false ≡ headed b
-  unfolding headed
-  no_total h = sym (rw (ne_eqb (num2 b 8) (register_size (num2 b 0) (num2 b 2)) h, and-false))
-
-  pub no_zero : (num2 b 10 ≡ 0 → ⊥) → false ≡ headed b
-  unfolding headed
-  no_zero h = sym (rw (ne_eqb (num2 b 10) 0 h, and-false))
-
-  pub only_length : num2 b 4 ≡ 12 → num2 b 6 ≡ links_offset (num2 b 0) → num2 b 8 ≡ register_size (num2 b 0) (num2 b 2) → num2 b 10 ≡ 0 →
-      eqb (length b) (register_size (num2 b 0) (num2 b 2)) ≡ headed b
-  unfolding headed
-  only_length e f g h =
-      sym (rw (eq-eqb (num2 b 4) 12 e, eq-eqb (num2 b 6) (links_offset (num2 b 0)) f, eq-eqb (num2 b 8) (register_size (num2 b 0) (num2 b 2)) g, eq-eqb (num2 b 10) 0 h))
+pub length_is : (b : List ℕ) (n m : ℕ) → OfRegister b n m → length b ≡ register_size n m
+length_is b n m o = omega (arith, (readable b o.fine).long, o.items_are, o.links_are, items_at b, links_at b)
 
 -- ---- the links
 
@@ -62,54 +36,22 @@ pub links_in_order : (b : List ℕ) (n m : ℕ) → n ≡ num2 b 0 → m ≡ num
 unfolding links_fine in_order register_in
 links_in_order b n m e f = rw (e, f) (sym (rw (items_at b)))
 
--- ---- the verdict
-
-module _ (b : List ℕ) where
-  pub short : length b < 12 → refused 1 ≡ verdict b
-  unfolding verdict fault verdict_by
-  short h = sym (rw (lt-ltb (length b) 12 h))
-
-  module _ (long : 12 ≤ length b) where
-    pub too_many : leb (num2 b 0) 1024 && leb (num2 b 2) 2048 ≡ false → refused 2 ≡ verdict b
-    unfolding verdict fault verdict_by
-    too_many e = sym (rw (le-ltb (length b) 12 long, e))
-
-    module _ (few : leb (num2 b 0) 1024 && leb (num2 b 2) 2048 ≡ true) where
-      pub bad_head : headed b ≡ false → refused 1 ≡ verdict b
-      unfolding verdict fault verdict_by
-      bad_head e = sym (rw (le-ltb (length b) 12 long, few, e))
-
-      pub bad_link : headed b ≡ true → links_fine (register_in b) ≡ false → refused 3 ≡ verdict b
-      unfolding verdict fault verdict_by
-      bad_link e f = sym (rw (le-ltb (length b) 12 long, few, e, f))
-
-      pub all_right : headed b ≡ true → links_fine (register_in b) ≡ true → accepted (num2 b 0) (num2 b 2) ≡ verdict b
-      unfolding verdict fault verdict_by
-      all_right e f = sym (rw (le-ltb (length b) 12 long, few, e, f))
-
-      pub within_limits : (num2 b 0 ≤ 1024) × (num2 b 2 ≤ 2048)
-      within_limits = let f = and_inv (leb (num2 b 0) 1024) (leb (num2 b 2) 2048) few in (leb-true (num2 b 0) 1024 f.0, leb-true (num2 b 2) 2048 f.1)
-
-      -- a header that is right gives the length
-      pub head_long : headed b ≡ true → register_size (num2 b 0) (num2 b 2) ≤ length b
-      unfolding headed
-      head_long e =
-          let n = num2 b 0 in
-          let total = register_size n (num2 b 2) in
-          omega (
-            arith,
-            eqb-true (length b) total
-                (and_inv (eqb (num2 b 4) 12 && eqb (num2 b 6) (links_offset n) && eqb (num2 b 8) total && eqb (num2 b 10) 0) (eqb (length b) total) e).1,
-          )
+-- the counts that stand in the header are those of the picture
+pub counts_are : (b : List ℕ) (n m : ℕ) → fault b ≡ 0 → n ≡ num2 b 0 → m ≡ num2 b 2 → OfRegister b n m
+counts_are b n m fine e f = record { fine = fine; items_are = e ∙ sym (items_at b); links_are = f ∙ sym (links_at b) }
 
 -- ---- the accessors
 
-module _ (b : List ℕ) (n k : ℕ) (o : OfLink b n k) where
+-- a register that has a link k, with all its links
+pub link_has : (b : List ℕ) (n k : ℕ) → OfLink b n k → OfRegister b n (length (register_in b).links)
+link_has b n k o = record { fine = o.fine; items_are = o.items_are; links_are = refl }
+
+module _ (b : List ℕ) (n m k : ℕ) (o : OfRegister b n m) (h : k < m) where
   n_is : n ≡ num2 b 0
   n_is = o.items_are ∙ items_at b
 
   k_below : k < num2 b 2
-  k_below = rw (links_at b) at o.link_is
+  k_below = omega (arith, o.links_are, links_at b)
 
   -- a field of a link lies within the file, whose counts are within their limits
   pub link_within : (n ≤ 1024) × (k < 2048) × (links_offset n + 6 * k + 6 ≤ length b)
@@ -141,3 +83,7 @@ module _ (b : List ℕ) (n k : ℕ) (o : OfLink b n k) where
   target_is v f =
       let e : v ≡ (link_of (register_in b) k).target = f ∙ sym (ap (λ (a : Link). a.target) link_is) in
       (e, omega (arith, e, ((readable b o.fine).ends k k_below).2, o.items_are))
+
+-- v is what stands at an item's marks
+pub marks_is : (b : List ℕ) (n m x : ℕ) → OfRegister b n m → x < n → (v : ℕ) → v ≡ num4 b (12 + 4 * x) → v ≡ marks_of (register_in b) x
+marks_is b n m x o h v e = e ∙ sym (marks_at b x (omega (arith, o.items_are, items_at b)))

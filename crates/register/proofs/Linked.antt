@@ -4,13 +4,19 @@ use prog.Wired.{Code}
 use prog.Linked.{Tree, World, Holds, in_world}
 use prog.LinkedThreads.{HasT}
 use Rattle.register.proofs.TheLink
+use Rattle.register.proofs.Register.far.Symbol as Register-far-symbol
+use Rattle.register.proofs.Register.label.Symbol as Register-label-symbol
+use Rattle.register.proofs.Register.marks.Symbol as Register-marks-symbol
+use Rattle.register.proofs.Register.near.Symbol as Register-near-symbol
+use Rattle.register.proofs.Register.source.Symbol as Register-source-symbol
+use Rattle.register.proofs.Register.target.Symbol as Register-target-symbol
 use Rattle.register.proofs.far.Symbol as far-symbol
-use Rattle.register.proofs.judge.Symbol as judge-symbol
 use Rattle.register.proofs.label.Symbol as label-symbol
 use Rattle.register.proofs.marks.Symbol as marks-symbol
 use Rattle.register.proofs.near.Symbol as near-symbol
 use Rattle.register.proofs.source.Symbol as source-symbol
 use Rattle.register.proofs.target.Symbol as target-symbol
+use Rattle.register.proofs.verdict.judge.Symbol as judge-symbol
 
 abbrev pub table : Tree
 table = TheLink.table
@@ -21,11 +27,26 @@ Below = TheLink.Below
 abbrev pub Found : Code → Type 0
 Found c = (W : World) → Holds W "register" table → Below W → HasT (in_world W) true c
 
+pub has-Register-far : Found Register-far-symbol.code
+has-Register-far = TheLink.linked-register::Register::far
+
+pub has-Register-label : Found Register-label-symbol.code
+has-Register-label = TheLink.linked-register::Register::label
+
+pub has-Register-marks : Found Register-marks-symbol.code
+has-Register-marks = TheLink.linked-register::Register::marks
+
+pub has-Register-near : Found Register-near-symbol.code
+has-Register-near = TheLink.linked-register::Register::near
+
+pub has-Register-source : Found Register-source-symbol.code
+has-Register-source = TheLink.linked-register::Register::source
+
+pub has-Register-target : Found Register-target-symbol.code
+has-Register-target = TheLink.linked-register::Register::target
+
 pub has-far : Found far-symbol.code
 has-far = TheLink.linked-register::far
-
-pub has-judge : Found judge-symbol.code
-has-judge = TheLink.linked-register::judge
 
 pub has-label : Found label-symbol.code
 has-label = TheLink.linked-register::label
@@ -41,3 +62,6 @@ has-source = TheLink.linked-register::source
 
 pub has-target : Found target-symbol.code
 has-target = TheLink.linked-register::target
+
+pub has-judge : Found judge-symbol.code
+has-judge = TheLink.linked-register::verdict::judge

@@ -2,82 +2,91 @@
 // picture and hand out an Item where the file has an item number. Leans on wire for the bytes and on links for their order.
 #![tactic(auto)]
 
-ghost use Rattle.std.specs.Prelude.{◌≡◌, ◌+◌, ◌*◌, ◌≤◌, ◌<◌, ◌&&◌, leb, length};
+ghost use Rattle.std.specs.Prelude.{◌≡◌, ◌+◌, ◌*◌, ◌≤◌, ◌<◌, length};
 ghost use Rattle.meaning.specs.Register.{items, marks_of, link_of, near as near_end, far as far_end};
 ghost use Rattle.meaning.specs.Bytes.{num2};
-ghost use Rattle.meaning.specs.RegisterFile.{links_offset, register_in, headed, fault, verdict};
-ghost use Rattle.register.specs.Told.{told, OfLink};
+ghost use Rattle.meaning.specs.RegisterFile.{links_offset, register_size, register_in, fault};
+ghost use Rattle.register.specs.Accepted.{OfLink, OfRegister};
 
-use meaning::{Direction, Refusal};
+use meaning::Direction;
 use names::Item;
 
-// "Limits: n ≤ 1,024, m ≤ 2,048, labels 0 to 15."
-const MOST_ITEMS: usize = 1024;
+mod verdict;
 
-const MOST_LINKS: usize = 2048;
+pub use verdict::judge;
 
-// The register's item count and link count, or the first thing wrong with it.
+// An accepted register: its bytes, and how many items and how many links they have.
 #[derive(Clone, Copy)]
-pub enum Judged {
-    Accepted { items: usize, links: usize },
-    Refused(Refusal),
+pub struct Register<'a> {
+    pub bytes: &'a [u8],
+    pub items: usize,
+    pub links: usize,
+    pub ghost accepted: { OfRegister bytes.now items links },
+    pub ghost few_items: { items ≤ 1024 },
+    pub ghost few_links: { links ≤ 2048 },
+    pub ghost long: { length bytes.now ≡ register_size items links },
 }
 
-// "Register checks: under 12 bytes (1), then 2, then the rest of 1, then 3."
-pub fn judge(reg: &[u8]) -> Judged
-    ensures { told result ≡ verdict reg.now }
-{
-    if reg.len() < 12 {
-        return Judged::Refused(Refusal::Header);
+impl Register<'_> {
+    pub fn marks(&self, x: Item) -> u32
+        requires { x.0 < self.now.items }
+        ensures { result ≡ marks_of (register_in self.now.bytes.now) x.0 }
+    {
+        wire::four(self.bytes, 12 + 4 * x.index())
     }
-    let n = wire::two(reg, 0) as usize;
-    let m = wire::two(reg, 2) as usize;
-    if !few(n, m) {
-        return Judged::Refused(Refusal::Size);
+
+    pub fn source(&self, k: usize) -> Item
+        requires { k < self.now.links }
+        ensures { (result.0 ≡ (link_of (register_in self.now.bytes.now) k).source) × (result.0 < self.now.items) }
+    {
+        Item(self.field(k, 0))
     }
-    if !right_head(reg, n, m) {
-        return Judged::Refused(Refusal::Header);
+
+    pub fn label(&self, k: usize) -> u8
+        requires { k < self.now.links }
+        ensures { (result ≡ (link_of (register_in self.now.bytes.now) k).label) × (result < 16) }
+    {
+        self.field(k, 1) as u8
     }
-    if !links::fine(reg, 12 + 4 * n, m, n) {
-        return Judged::Refused(Refusal::Link);
+
+    pub fn target(&self, k: usize) -> Item
+        requires { k < self.now.links }
+        ensures { (result.0 ≡ (link_of (register_in self.now.bytes.now) k).target) × (result.0 < self.now.items) }
+    {
+        Item(self.field(k, 2))
     }
-    Judged::Accepted { items: n, links: m }
+
+    // The item at which link k is seen that way, and the neighbour to which it leads.
+    pub fn near(&self, k: usize, way: Direction) -> Item
+        requires { k < self.now.links }
+        ensures { (result.0 ≡ near_end way (link_of (register_in self.now.bytes.now) k)) × (result.0 < self.now.items) }
+    {
+        match way {
+            Direction::Outgoing => self.source(k),
+            Direction::Incoming => self.target(k),
+        }
+    }
+
+    pub fn far(&self, k: usize, way: Direction) -> Item
+        requires { k < self.now.links }
+        ensures { (result.0 ≡ far_end way (link_of (register_in self.now.bytes.now) k)) × (result.0 < self.now.items) }
+    {
+        match way {
+            Direction::Outgoing => self.target(k),
+            Direction::Incoming => self.source(k),
+        }
+    }
+
+    // Field f of link k: 0 its source, 1 its label, 2 its target.
+    fn field(&self, k: usize, f: usize) -> u16
+        requires { (k < self.now.links) × (f < 3) }
+        ensures { result ≡ num2 self.now.bytes.now (links_offset self.now.items + 6 * k + 2 * f) }
+    {
+        wire::two(self.bytes, 12 + 4 * self.items + 6 * k + 2 * f)
+    }
 }
 
-// Not "n > 1,024 or m > 2,048".
-fn few(n: usize, m: usize) -> bool
-    ensures { result ≡ leb n 1024 && leb m 2048 }
-{
-    if n <= MOST_ITEMS {
-        m <= MOST_LINKS
-    } else {
-        false
-    }
-}
-
-// "offset of marks (12), offset of links (12 + 4n), total length (12 + 4n + 6m), zero": and the file is exactly so long.
-fn right_head(reg: &[u8], n: usize, m: usize) -> bool
-    requires { (12 ≤ length reg.now) × (n ≡ num2 reg.now 0) × (m ≡ num2 reg.now 2) × (n ≤ 1024) × (m ≤ 2048) }
-    ensures { result ≡ headed reg.now }
-{
-    let links = 12 + 4 * n;
-    let total = links + 6 * m;
-    if wire::two(reg, 4) != 12 {
-        return false;
-    }
-    if wire::two(reg, 6) as usize != links {
-        return false;
-    }
-    if wire::two(reg, 8) as usize != total {
-        return false;
-    }
-    if wire::two(reg, 10) != 0 {
-        return false;
-    }
-    reg.len() == total
-}
-
-// The marks of an item of an accepted register.
+// The same of bytes that a caller knows to be an accepted register of n items.
 pub fn marks(reg: &[u8], x: Item) -> u32
     requires { (fault reg.now ≡ 0) × (x.0 < items (register_in reg.now)) }
     ensures { result ≡ marks_of (register_in reg.now) x.0 }
@@ -86,7 +95,6 @@ pub fn marks(reg: &[u8], x: Item) -> u32
     wire::four(reg, 12 + 4 * i)
 }
 
-// Field f of link k of an accepted register of n items: 0 its source, 1 its label, 2 its target.
 fn field(reg: &[u8], n: usize, k: usize, f: usize) -> u16
     requires { OfLink reg.now n k × (f < 3) }
     ensures { result ≡ num2 reg.now (links_offset n + 6 * k + 2 * f) }
@@ -115,7 +123,6 @@ pub fn target(reg: &[u8], n: usize, k: usize) -> Item
     Item(field(reg, n, k, 2))
 }
 
-// The item at which link k is seen that way, and the neighbour to which it leads.
 pub fn near(reg: &[u8], n: usize, k: usize, way: Direction) -> Item
     requires { OfLink reg.now n k }
     ensures { (result.0 ≡ near_end way (link_of (register_in reg.now) k)) × (result.0 < n) }

@@ -1,10 +1,6 @@
 -- The source of a link of an accepted register.
-use native.Mathlib.Omega.{arith}
-use Rattle.register.proofs.Laws.{source_is}
+use Rattle.register.proofs.Laws.{link_has, source_is}
 use Rattle.register.proofs.source.Goals as goal
 
-pub field-requires : goal.field-requires
-field-requires c = (c.requires, omega arith)
-
 pub returns : goal.returns
-returns c = source_is _ _ _ c.requires _ c.field.ensures
+returns c = source_is _ _ _ _ (link_has _ _ _ c.requires) c.requires.link_is _ c.field.ensures
