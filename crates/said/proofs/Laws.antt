@@ -1,4 +1,4 @@
--- A lent buffer too short for the answer, and one that takes it whole; a length that C is handed. Leans on wire's Sets.
+-- A lent buffer too short for the answer, and one that takes it whole. Leans on wire's Sets.
 use mathlib.Core.Path.{◌≡◌, sym, subst, ◌∙◌}
 use mathlib.Core.List.{List}
 use Prim.Native.Nat.{ℕ, ◌≤◌, ◌<◌}
@@ -6,25 +6,21 @@ use borrow.Author.Tests.{le-leb, lt-leb}
 use lib.Dec.{leb}
 use lib.ListN.{length}
 use lib.Seq.{sets}
+use Rattle.std.proofs.Common.{Result, Ok, Err}
 use Rattle.meaning.specs.Answers.{Answer, returned, left, into}
+use Rattle.meaning.specs.declared.Refusal.{Refusal}
 use Rattle.meaning.specs.declared.Refusal.TheVariants.{Room}
 use Rattle.wire.proofs.Sets.{sets_left}
-use Rattle.said.specs.Written.{told, Gives, Short}
-use Rattle.said.specs.declared.Wrote.{Wrote}
-use Rattle.said.specs.declared.Wrote.TheVariants.{Length, Refused}
+use Rattle.said.specs.Written.{Gives}
 
 module _ (d p : List ℕ) where
-  pub no_room : length d < length p → Gives (Refused Room) d d (into (length d) p)
+  pub no_room : length d < length p → Gives (Err Room) d d (into (length d) p)
   unfolding into returned left
   no_room h = let e : leb (length p) (length d) ≡ _ = lt-leb (length p) (length d) h in record { says = sym (rw e); leaves = sym (rw e) }
 
-  pub whole : (d' : List ℕ) (k : ℕ) → k ≡ length p → length p ≤ length d → d' ≡ sets d 0 p → Gives (Length k) d d' (into (length d) p)
+  pub whole : (d' : List ℕ) (k : ℕ) → k ≡ length p → length p ≤ length d → d' ≡ sets d 0 p → Gives (Ok k) d d' (into (length d) p)
   unfolding into returned
   whole d' k e h s = let f = le-leb (length p) (length d) h in record { says = rw (f, e); leaves = rw f (s ∙ sets_left d p h) }
 
-pub gives_this : (w : Wrote) (d d' : List ℕ) (a b : Answer) → a ≡ b → Gives w d d' a → Gives w d d' b
+pub gives_this : (w : Result ℕ Refusal) (d d' : List ℕ) (a b : Answer) → a ≡ b → Gives w d d' a → Gives w d d' b
 gives_this w d d' a b e = subst (λ (a : Answer). Gives w d d' a) e
-
-pub short_length : (w : Wrote) (k : ℕ) → w ≡ Length k → Short (told w) → k ≤ 55320
-unfolding Short
-short_length w k e h = subst (λ (w : Wrote). Short (told w)) e h

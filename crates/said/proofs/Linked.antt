@@ -6,7 +6,6 @@ use prog.LinkedThreads.{HasT}
 use Rattle.said.proofs.TheLink
 use Rattle.said.proofs.coded.Symbol as coded-symbol
 use Rattle.said.proofs.measured.Symbol as measured-symbol
-use Rattle.said.proofs.spoken.Symbol as spoken-symbol
 
 abbrev pub table : Tree
 table = TheLink.table
@@ -22,6 +21,3 @@ has-coded = TheLink.linked-said::coded
 
 pub has-measured : Found measured-symbol.code
 has-measured = TheLink.linked-said::measured
-
-pub has-spoken : Found spoken-symbol.code
-has-spoken = TheLink.linked-said::spoken

@@ -1,6 +1,6 @@
 -- A summary file as a list of two-byte numbers: "Class: marks (four), group, item count"; "Row: class, direction times 16 plus label,
 -- group, neighbour count"; "Class link: source class, label, target class"; "Map: the class of each item." Leans on meaning.
-use Rattle.std.specs.Prelude.{ℕ, ◌*◌, ◌/◌, ◌%◌, ◌≤◌, List, [], ◌∷◌, ◌++◌, length, take}
+use Rattle.std.specs.Prelude.{ℕ, ◌/◌, ◌%◌, List, [], ◌∷◌, ◌++◌, length}
 use Rattle.meaning.specs.Register.{Link}
 use Rattle.meaning.specs.Summary.{Class, Row, Summary}
 use Rattle.meaning.specs.WellFormed.{way}
@@ -28,20 +28,11 @@ unfoldable pub head_numbers : Summary → List ℕ
 head_numbers S =
     head_of S.level S.near_cap S.class_cap (length S.classes) S.groups (length S.rows) (length S.links) (length S.map)
 
+-- five parts of numbers, one behind the other: header, classes, rows, class links, map
+unfoldable pub numbers : List ℕ → List ℕ → List ℕ → List ℕ → List ℕ → List ℕ
+numbers head classes rows edges map = head ++ (classes ++ (rows ++ (edges ++ map)))
+
 -- the numbers of a summary; `numbers_bytes` says that the bytes of these are the summary's
 unfoldable pub summary_numbers : Summary → List ℕ
-summary_numbers S = head_numbers S ++ (pack class_numbers S.classes ++ (pack row_numbers S.rows ++ (pack edge_numbers S.links ++ S.map)))
-
--- five parts of numbers, one behind the other
-unfoldable pub numbers : List ℕ → List ℕ → ℕ → List ℕ → ℕ → List ℕ → ℕ → List ℕ → ℕ → List ℕ
-numbers head classes c rows r edges e map n =
-    take 12 head ++ (take (class_fields * c) classes ++ (take (4 * r) rows ++ (take (3 * e) edges ++ take n map)))
-
--- the parts are there, within the limits, and there is room for them
-pub record Parts (head classes : List ℕ) (c : ℕ) (rows : List ℕ) (r : ℕ) (edges : List ℕ) (e : ℕ) (map : List ℕ) (n : ℕ) : Type 0 where
-  pub few : (c ≤ 1024) × (r ≤ 4096) × (e ≤ 2048) × (n ≤ 1024)
-  pub heads : 12 ≤ length head
-  pub classes_there : class_fields * c ≤ length classes
-  pub rows_there : 4 * r ≤ length rows
-  pub edges_there : 3 * e ≤ length edges
-  pub map_there : n ≤ length map
+summary_numbers S =
+    numbers (head_numbers S) (pack class_numbers S.classes) (pack row_numbers S.rows) (pack edge_numbers S.links) S.map

@@ -2,14 +2,13 @@
 // five parts, header, classes, rows, class links, map, and each part is written by one loop. Leans on wire for the loop.
 #![tactic(auto)]
 
-ghost use Rattle.std.specs.Prelude.{◌≡◌, ◌+◌, ◌*◌, ◌≤◌, length};
+ghost use Rattle.std.specs.Prelude.{◌≡◌, ◌≤◌, length};
 ghost use Rattle.meaning.specs.Bytes.{put2, pack};
 ghost use Rattle.meaning.specs.Answers.{into};
 ghost use Rattle.said.specs.Written.{Gives};
-ghost use Rattle.summary.specs.Numbers.{Parts, numbers, head_of};
+ghost use Rattle.summary.specs.Numbers.{numbers, head_of};
 
 use meaning::Refusal;
-use said::Wrote;
 
 // How many numbers a class record, a row and a class link have.
 pub const CLASS: usize = 4;
@@ -18,39 +17,37 @@ pub const ROW: usize = 4;
 
 pub const EDGE: usize = 3;
 
-// The five parts, of c classes, r rows, e class links and n items. "9: output buffer shorter than the answer": no byte is written before it
-// is known that all fit.
-pub fn file(
-    out: &mut [u8],
-    head: &[u16],
-    classes: &[u16],
-    c: usize,
-    rows: &[u16],
-    r: usize,
-    edges: &[u16],
-    e: usize,
-    map: &[u16],
-    n: usize,
-) -> Wrote
-    requires { Parts head.now classes.now c rows.now r edges.now e map.now n }
+// The five parts of a file, in their order and within the limits.
+#[derive(Clone, Copy)]
+pub struct Parts<'a> {
+    pub head: [u16; 12],
+    pub classes: &'a [u16],
+    pub rows: &'a [u16],
+    pub edges: &'a [u16],
+    pub map: &'a [u16],
+    ghost few: { (length classes.now ≤ 4096) × (length rows.now ≤ 16384) × (length edges.now ≤ 6144) × (length map.now ≤ 1024) },
+}
+
+// "9: output buffer shorter than the answer": no byte is written before it is known that all fit.
+pub fn file(out: &mut [u8], of: Parts) -> Result<usize, Refusal>
     ensures { Gives result out.old out.new
         (into (length out.old)
-        (pack put2 (numbers head.now classes.now c rows.now r edges.now e map.now n))) }
+        (pack put2 (numbers of.entry.head of.entry.classes.now of.entry.rows.now of.entry.edges.now of.entry.map.now))) }
 {
-    let long = 24 + 8 * c + 8 * r + 6 * e + 2 * n;
+    let long = 24 + 2 * (of.classes.len() + of.rows.len() + of.edges.len() + of.map.len());
     if out.len() < long {
-        return Wrote::Refused(Refusal::Room);
+        return Err(Refusal::Room);
     }
-    wire::put_numbers(out, 0, head, 12);
+    wire::put_numbers(out, 0, &of.head);
     let mut at = 24;
-    wire::put_numbers(out, at, classes, CLASS * c);
-    at += 2 * CLASS * c;
-    wire::put_numbers(out, at, rows, ROW * r);
-    at += 2 * ROW * r;
-    wire::put_numbers(out, at, edges, EDGE * e);
-    at += 2 * EDGE * e;
-    wire::put_numbers(out, at, map, n);
-    Wrote::Length(long)
+    wire::put_numbers(out, at, of.classes);
+    at += 2 * of.classes.len();
+    wire::put_numbers(out, at, of.rows);
+    at += 2 * of.rows.len();
+    wire::put_numbers(out, at, of.edges);
+    at += 2 * of.edges.len();
+    wire::put_numbers(out, at, of.map);
+    Ok(long)
 }
 
 // What the header says besides the offsets.

@@ -5,13 +5,10 @@ use Rattle.summary.proofs.Laws.{parts_long, written}
 use Rattle.summary.proofs.file.Goals as goal
 
 pub returns-then-out-long : goal.returns-then-out-long
-returns-then-out-long c =
-    no_room _ _ (omega (arith, parts_long _ _ _ _ _ _ _ _ _ c.requires))
+returns-then-out-long c = no_room _ _ (omega (arith, parts_long))
 
 pub returns : goal.returns
 returns c =
-    let enough = c.if-out-long.false in
-    let l = parts_long _ _ _ _ _ _ _ _ _ c.requires in
-    whole _ _ _ _ (omega (arith, l)) (omega (arith, l, enough))
-    (written _ _ _ _ _ _ _ _ _ _ c.requires _ _ _ _ _ _ _ _ (omega arith) (omega arith) (omega arith)
+    whole _ _ _ _ (omega (arith, parts_long)) (omega (arith, parts_long))
+    (written _ _ _ _ _ _ _ _ _ _ (omega arith) (omega arith) (omega arith) (omega arith)
     c.put_numbers.ensures c.put_numbers-2.ensures c.put_numbers-3.ensures c.put_numbers-4.ensures c.put_numbers-5.ensures)
