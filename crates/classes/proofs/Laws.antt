@@ -7,15 +7,14 @@ use native.Mathlib.Omega.{arith}
 use borrow.Author.Tests.{eq-eqb}
 use lib.Dec.{eqb}
 use lib.ListN.{length, get_or, set, take, drop, replicate, length-set, get_or-replicate}
-use lib.Seq.{take-add, drop-cons, get_or-take, length-take-le, get_or-set_same, get_or-set_other}
+use lib.Seq.{take-add, drop-cons, get_or-set_same, get_or-set_other}
 use Rattle.meaning.specs.Cap.{cap}
 use Rattle.meaning.specs.Count.{sum, tally, join, seek}
 use Rattle.meaning.specs.Register.{Register, items, marks_of}
 use Rattle.meaning.specs.Level.{class_count, lowest_item}
 use Rattle.meaning.specs.Condense.{by, class_for}
-use Rattle.theory.proofs.CountLaws.{by_bool, by_eq, no, tally_same, seek_le, seek_passes, join_same}
+use Rattle.theory.proofs.CountLaws.{by_bool, by_eq, no, seek_le, seek_passes, join_same}
 use Rattle.theory.proofs.NumberLaws.{tally_lt, get_d_below}
-use Rattle.promise.proofs.Access.{items_at, readable}
 use Rattle.meaning.specs.RegisterFile.{register_in}
 use Rattle.wire.proofs.Sets.{pack_tab}
 use Rattle.summary.specs.Numbers.{class_numbers}
@@ -197,31 +196,17 @@ all_entered R gs cs u ν n e m long few used under =
         let f = w.whole (omega arith) in
         four_same u k _ _ _ _ f.0 f.1 f.2 (f.3 ∙ ap (λ (i : ℕ). cap ν (tally (λ y. eqb (by cs y) k) i)) (m ∙ e))
 
--- the same, of lists that begin with the groups and the classes
-module _ (b : List ℕ) (n : ℕ) (groups classes : List ℕ) (s : Sorted b n groups classes) where
-  pub n_items : n ≤ 1024
-  n_items = omega (arith, s.items_are, items_at b, (readable b s.fine).few)
-
+-- the same of a file's register of n items
+module _ (b : List ℕ) (n : ℕ) (groups classes : List ℕ) (are : n ≡ items (register_in b)) (s : Sorted n groups classes) where
   pub class_small : (x : ℕ) → x < n → get_or classes x 0 < 1024
-  class_small x h =
-      let e : get_or (take n classes) x 0 ≡ get_or classes x 0 = get_or-take n classes x 0 h in
-      omega (arith, e, get_d_below (take n classes) x (rw (length-take-le n classes s.classes_there) h), s.few)
+  class_small x h = omega (arith, get_d_below classes x (omega (arith, s.classes_there)), s.few)
 
-  -- counted by the whole list, or by the part of it that has the n items
-  counted_all : (ν x count : ℕ) → x < n → count ≡ cap ν (tally (λ y. eqb (get_or classes y 0) (get_or classes x 0)) n) →
-      count ≡ cap ν (tally (λ y. eqb (by (take n classes) y) (by (take n classes) x)) (length (take n classes)))
-  counted_all ν x count h e =
-      rw (length-take-le n classes s.classes_there, get_or-take n classes x 0 h)
-      (e ∙ ap (cap ν) (tally_same _ _ n (λ y g. ap (λ (i : ℕ). eqb i (get_or classes x 0)) (sym (get_or-take n classes y 0 g)))))
-
-  pub entered_in : (ν : ℕ) (u v : List ℕ) (x count : ℕ) → x < n → count ≡ cap ν (tally (λ y. eqb (get_or classes y 0) (get_or classes x 0)) n) →
+  pub entered_in : (ν : ℕ) (u v : List ℕ) (x count : ℕ) → x < n → count ≡ cap ν (tally (λ y. eqb (get_or classes y 0) (get_or classes x 0)) (length classes)) →
       Enters u v (get_or classes x 0) (marks_of (register_in b) x) (get_or groups x 0) count →
-      (k : ℕ) → Under (register_in b) (take n groups) (take n classes) ν u x k → Under (register_in b) (take n groups) (take n classes) ν v (x + 1) k
+      (k : ℕ) → Under (register_in b) groups classes ν u x k → Under (register_in b) groups classes ν v (x + 1) k
   entered_in ν u v x count h e enters k w =
-      entered (register_in b) (take n groups) (take n classes) ν u v x count (rw (length-take-le n classes s.classes_there) h) (counted_all ν x count h e)
-      (rw (get_or-take n classes x 0 h, get_or-take n groups x 0 h) enters) k w
+      entered (register_in b) groups classes ν u v x count (omega (arith, s.classes_there)) e enters k w
 
-  pub sorted_all : (ν : ℕ) (u : List ℕ) → length u ≡ 4096 → ((k : ℕ) → k < 1024 → Under (register_in b) (take n groups) (take n classes) ν u n k) →
-      Numbered u (register_in b) (take n groups) (take n classes) ν
-  sorted_all ν u long under =
-      all_entered (register_in b) (take n groups) (take n classes) u ν n s.items_are (length-take-le n classes s.classes_there) long s.few s.used under
+  pub sorted_all : (ν : ℕ) (u : List ℕ) → length u ≡ 4096 → ((k : ℕ) → k < 1024 → Under (register_in b) groups classes ν u n k) →
+      Numbered u (register_in b) groups classes ν
+  sorted_all ν u long under = all_entered (register_in b) groups classes u ν n are s.classes_there long s.few s.used under

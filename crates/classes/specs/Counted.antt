@@ -1,25 +1,22 @@
 -- Class records under way: four numbers a class, and what entering an item does to them. Leans on meaning's class_for for what they end as.
 use Rattle.std.specs.Prelude.{ℕ, ◌+◌, ◌*◌, ◌/◌, ◌%◌, ◌≤◌, ◌<◌, ◌≡◌, List, length, get_or, take}
 use Rattle.meaning.specs.Count.{tab}
-use Rattle.meaning.specs.Register.{Register, items}
+use Rattle.meaning.specs.Register.{Register}
 use Rattle.meaning.specs.Level.{class_count, lowest_item}
 use Rattle.meaning.specs.Condense.{class_for}
 use Rattle.meaning.specs.Bytes.{pack}
-use Rattle.meaning.specs.RegisterFile.{register_in, fault}
 use Rattle.summary.specs.Numbers.{class_fields, class_numbers}
 
 -- number j of class k's record
 abbrev pub part : List ℕ → ℕ → ℕ → ℕ
 part u k j = get_or u (4 * k + j) 0
 
--- an accepted register of n items with their groups and classes: at most 1,024 classes, each of some item
-pub record Sorted (b : List ℕ) (n : ℕ) (groups classes : List ℕ) : Type 0 where
-  pub fine : fault b ≡ 0
-  pub items_are : n ≡ items (register_in b)
-  pub groups_there : n ≤ length groups
-  pub classes_there : n ≤ length classes
-  pub few : class_count (take n classes) ≤ 1024
-  pub used : (k : ℕ) → k < class_count (take n classes) → lowest_item (take n classes) k < n
+-- the groups and the classes of n items: at most 1,024 classes, each of some item
+pub record Sorted (n : ℕ) (groups classes : List ℕ) : Type 0 where
+  pub groups_there : length groups ≡ n
+  pub classes_there : length classes ≡ n
+  pub few : class_count classes ≤ 1024
+  pub used : (k : ℕ) → k < class_count classes → lowest_item classes k < n
 
 -- v is u with an item of class k entered, of those marks and that group: the first of a class gives it its record, with how many items it has
 pub record Enters (u v : List ℕ) (k marks group count : ℕ) : Type 0 where

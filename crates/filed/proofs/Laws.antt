@@ -68,15 +68,14 @@ pub rows_long : (R : Register) (µ : ℕ) (gs : List ℕ) (n : ℕ) (starts rows
 unfolding item_start
 rows_long R µ gs n starts rows s = omega (arith, ap length s.rows_are, length-take (item_start R µ gs n) rows)
 
-module _ (R : Register) (µ : ℕ) (gs : List ℕ) (n : ℕ) (classes starts rows : List ℕ) (g : Given R µ gs n classes starts rows) where
+module _ (R : Register) (µ : ℕ) (gs classes starts rows : List ℕ) (g : Given R µ gs classes starts rows) where
+  abbrev n : ℕ
+  n = length classes
+
   starts_at : (x : ℕ) → x ≤ n → get_or starts x 0 ≡ item_start R µ gs x
   starts_at x h =
       sym (get_or-take (n + 1) starts x 0 (omega arith)) ∙ ap (λ (l : List ℕ). get_or l x 0) g.rows_stand.starts_are
       ∙ get_d_tab (item_start R µ gs) 0 (n + 1) x (omega arith)
-
-  -- lists that begin so are long enough
-  pub classes_long : n ≤ length classes
-  classes_long = omega (arith, g.numbered.long, length-take n classes)
 
   pub starts_long : n + 1 ≤ length starts
   starts_long = omega (arith, ap length g.rows_stand.starts_are, length-take (n + 1) starts, length_tab (item_start R µ gs) (n + 1))
@@ -212,47 +211,44 @@ pack_size (r ∷ s) = omega (arith, pack_size s)
 sets_front : (d p : List ℕ) → length p ≤ length d → take (length p) (sets d 0 p) ≡ p
 sets_front d p h = ap (take (length p)) (sets-eq p d 0 (omega arith)) ∙ take_at p (drop (0 + length p) d) (length p) refl
 
-module _ (R : Register) (µ : ℕ) (gs : List ℕ) (n : ℕ) (classes starts rows : List ℕ) (g : Given R µ gs n classes starts rows) where
-  abbrev cs : List ℕ
-  cs = take n classes
+module _ (R : Register) (µ : ℕ) (gs classes starts rows : List ℕ) (g : Given R µ gs classes starts rows) where
+  abbrev m : ℕ
+  m = length classes
 
-  class_at_law : (x : ℕ) → x < n → get_or cs x 0 ≡ get_or classes x 0
-  class_at_law x h = get_or-take n classes x 0 h
-
-  pub class_small : (x : ℕ) → x < n → get_or classes x 0 < 1024
-  class_small x h = omega (arith, class_at_law x h, g.numbered.below x h, g.numbered.few, g.few)
+  pub class_small : (x : ℕ) → x < m → get_or classes x 0 < 1024
+  class_small x h = omega (arith, g.numbered.below x h, g.numbered.few, g.few)
 
   -- a turn of the loop: what it leaves is told by equations
-  module _ (d u : List ℕ) (x seen at : ℕ) (h : x < n) (w : Under n cs starts rows d u x seen at) {v : List ℕ} {seen' at' : ℕ} where
+  module _ (d u : List ℕ) (x seen at : ℕ) (h : x < m) (w : Under m classes starts rows d u x seen at) {v : List ℕ} {seen' at' : ℕ} where
     pub first_turn : {t : List ℕ} → get_or classes x 0 ≡ seen →
         t ≡ sets u (4 * at) (copied rows (get_or classes x 0) (get_or starts x 0) (get_or starts (x + 1) 0 - get_or starts x 0)) →
-        v ≡ t → seen' ≡ seen + 1 → at' ≡ at + (get_or starts (x + 1) 0 - get_or starts x 0) → Under n cs starts rows d v (x + 1) seen' at'
+        v ≡ t → seen' ≡ seen + 1 → at' ≡ at + (get_or starts (x + 1) 0 - get_or starts x 0) → Under m classes starts rows d v (x + 1) seen' at'
     first_turn {t} e f a b c =
         rw (a, b, c)
-        (first_done n cs starts rows g.like g.numbered d u x seen at h (rise R µ gs n classes starts rows g x h) w t (get_or classes x 0) (sym (class_at_law x h)) e f)
+        (first_done m classes starts rows g.like g.numbered d u x seen at h (rise R µ gs classes starts rows g x h) w t (get_or classes x 0) refl e f)
 
-    pub other_turn : (get_or classes x 0 ≡ seen → ⊥) → v ≡ u → seen' ≡ seen → at' ≡ at → Under n cs starts rows d v (x + 1) seen' at'
+    pub other_turn : (get_or classes x 0 ≡ seen → ⊥) → v ≡ u → seen' ≡ seen → at' ≡ at → Under m classes starts rows d v (x + 1) seen' at'
     other_turn e a b c =
         rw (a, b, c)
-        (other_done n cs starts rows g.like g.numbered d u x seen at h (rise R µ gs n classes starts rows g x h) w (λ f. e (sym (class_at_law x h) ∙ f)))
+        (other_done m classes starts rows g.like g.numbered d u x seen at h (rise R µ gs classes starts rows g x h) w e)
 
-  all_numbers : join (of_class n cs starts rows) (class_count cs) ≡ pack row_numbers (class_rows R µ gs cs)
+  all_numbers : join (of_class m classes starts rows) (class_count classes) ≡ pack row_numbers (class_rows R µ gs classes)
   unfolding of_class
   all_numbers =
-      join_same (of_class n cs starts rows) (λ k. pack row_numbers (rows_at µ R (by gs) (class_count gs) k (lowest_item cs k))) (class_count cs)
-      (λ k h. item_numbers R µ gs n classes starts rows g k (lowest_item cs k) (g.numbered.used k h))
-      ∙ sym (pack_join row_numbers (λ k. rows_at µ R (by gs) (class_count gs) k (lowest_item cs k)) (class_count cs))
+      join_same (of_class m classes starts rows) (λ k. pack row_numbers (rows_at µ R (by gs) (class_count gs) k (lowest_item classes k))) (class_count classes)
+      (λ k h. item_numbers R µ gs classes starts rows g k (lowest_item classes k) (g.numbered.used k h))
+      ∙ sym (pack_join row_numbers (λ k. rows_at µ R (by gs) (class_count gs) k (lowest_item classes k)) (class_count classes))
 
-  pub all_done : (d out : List ℕ) (seen at : ℕ) → length d ≡ 16384 → Under n cs starts rows d out n seen at →
-      (at ≡ length (class_rows R µ gs cs)) × (take (4 * at) out ≡ pack row_numbers (class_rows R µ gs cs))
+  pub all_done : (d out : List ℕ) (seen at : ℕ) → length d ≡ 16384 → Under m classes starts rows d out m seen at →
+      (at ≡ length (class_rows R µ gs classes)) × (take (4 * at) out ≡ pack row_numbers (class_rows R µ gs classes))
   all_done d out seen at long w =
-      let most = count_le cs seen (λ x h. w.before x (omega (arith, g.numbered.long))) in
-      let e : seen ≡ class_count cs = omega (arith, w.few) in
-      let p : join (of_class n cs starts rows) seen ≡ pack row_numbers (class_rows R µ gs cs) = ap (join (of_class n cs starts rows)) e ∙ all_numbers in
-      let room = ends R µ gs n classes starts rows g n (omega arith) in (
-        omega (arith, ap length p, w.size, pack_size (class_rows R µ gs cs)),
+      let most = count_le classes seen (λ x h. w.before x (omega (arith, g.numbered.long))) in
+      let e : seen ≡ class_count classes = omega (arith, w.few) in
+      let p : join (of_class m classes starts rows) seen ≡ pack row_numbers (class_rows R µ gs classes) = ap (join (of_class m classes starts rows)) e ∙ all_numbers in
+      let room = ends R µ gs classes starts rows g m (omega arith) in (
+        omega (arith, ap length p, w.size, pack_size (class_rows R µ gs classes)),
         ap (λ (i : ℕ). take i out) (sym w.size)
-            ∙ ap (take (length (join (of_class n cs starts rows) seen))) w.written
-            ∙ sets_front d (join (of_class n cs starts rows) seen) (omega (arith, w.size, w.room, room.0))
+            ∙ ap (take (length (join (of_class m classes starts rows) seen))) w.written
+            ∙ sets_front d (join (of_class m classes starts rows) seen) (omega (arith, w.size, w.room, room.0))
             ∙ p,
       )

@@ -1,6 +1,6 @@
 -- The rows of a summary's classes, and the numbers that are copied out of the words of an item's rows: "Row, eight bytes: class,
 -- direction times 16 plus label (out 0, in 1), group, neighbour count capped at µ." Leans on alike's words of rows.
-use Rattle.std.specs.Prelude.{ℕ, ◌+◌, ◌/◌, ◌%◌, ◌≤◌, ◌<◌, Bool, List, [], ◌∷◌, length, get_or, take}
+use Rattle.std.specs.Prelude.{ℕ, ◌+◌, ◌/◌, ◌%◌, ◌≤◌, ◌<◌, Bool, List, [], ◌∷◌, length, get_or}
 use Rattle.meaning.specs.Count.{join}
 use Rattle.meaning.specs.Register.{Register}
 use Rattle.meaning.specs.Summary.{Row}
@@ -24,13 +24,13 @@ pub record Words (rows : List ℕ) (from m : ℕ) : Type 0 where
 abbrev pub class_rows : Register → ℕ → List ℕ → List ℕ → List Row
 class_rows R µ gs cs = join (λ k. rows_at µ R (by gs) (class_count gs) k (lowest_item cs k)) (class_count cs)
 
--- the classes of n items, numbered in order of lowest item; and the items' rows against the groups gs, as a level step leaves them. That
+-- the classes of items, numbered in order of lowest item; and the items' rows against the groups gs, as a level step leaves them. That
 -- the lists are long enough goes with what they begin with
-pub record Given (R : Register) (µ : ℕ) (gs : List ℕ) (n : ℕ) (classes starts rows : List ℕ) : Type 0 where
+pub record Given (R : Register) (µ : ℕ) (gs classes starts rows : List ℕ) : Type 0 where
   pub cap_low : µ ≤ 7
   pub few_groups : class_count gs ≤ 1024
-  pub few : n ≤ 1024
-  pub few_rows : item_start R µ gs n ≤ 4096
-  pub rows_stand : RowsStand R µ gs n starts rows
+  pub few : length classes ≤ 1024
+  pub few_rows : item_start R µ gs (length classes) ≤ 4096
+  pub rows_stand : RowsStand R µ gs (length classes) starts rows
   pub like : ℕ → ℕ → Bool
-  pub numbered : Numbering like n (take n classes)
+  pub numbered : Numbering like (length classes) classes

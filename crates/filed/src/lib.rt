@@ -33,25 +33,19 @@ fn copy_rows(class: u16, rows: &[u64], from: usize, m: usize, at: usize, out: &m
 
 // The rows of all classes, four numbers each, and how many rows there are. Classes are "numbered from 0 in order of their lowest item", so
 // an item is the lowest of its class exactly when its class is the number of classes seen before it.
-pub fn row_numbers(
-    n: usize,
-    classes: &[u16],
-    starts: &[u16],
-    rows: &[u64],
-    out: &mut [u16],
-) -> usize
-    requires { ((R : Register) × (µ : ℕ) × (gs : List ℕ) × Given R µ gs n classes.now starts.now rows.now) × (length out.old ≡ 16384) }
-    ensures { (R : Register) (µ : ℕ) (gs : List ℕ) → Given R µ gs n classes.now starts.now rows.now
-        → (result ≡ length (class_rows R µ gs (take n classes.now)))
-        × (take (4 * result) out.new ≡ pack row_numbers_word (class_rows R µ gs (take n classes.now))) }
+pub fn row_numbers(classes: &[u16], starts: &[u16], rows: &[u64], out: &mut [u16]) -> usize
+    requires { ((R : Register) × (µ : ℕ) × (gs : List ℕ) × Given R µ gs classes.now starts.now rows.now) × (length out.old ≡ 16384) }
+    ensures { (R : Register) (µ : ℕ) (gs : List ℕ) → Given R µ gs classes.now starts.now rows.now
+        → (result ≡ length (class_rows R µ gs classes.now))
+        × (take (4 * result) out.new ≡ pack row_numbers_word (class_rows R µ gs classes.now)) }
 {
     let mut seen = 0;
     let mut at = 0;
-    for x in 0..n {
-        if classes[x] as usize == seen {
+    for (x, class) in classes.iter().enumerate() {
+        if *class as usize == seen {
             let from = starts[x] as usize;
             let m = starts[x + 1] as usize - from;
-            copy_rows(classes[x], rows, from, m, at, out);
+            copy_rows(*class, rows, from, m, at, out);
             seen += 1;
             at += m;
         }

@@ -18,4 +18,5 @@ bounds-out-at-5 c = simp length-set (omega arith)
 pub returns : goal.returns
 returns c =
     let m = c.marks-marks.ensures in
-    enters_first _ _ _ _ _ c.requires.3 c.requires.2 _ _ c.if-number-gt0.false (ap (λ (v : ℕ). v / 65536) m) (ap (λ (v : ℕ). v % 65536) m)
+    rw c.index-at.ensures
+    (enters_first _ _ _ _ _ c.requires.2 c.requires.1 _ _ (rw c.index-at.ensures at c.if-number-gt0.false) (ap (λ (v : ℕ). v / 65536) m) (ap (λ (v : ℕ). v % 65536) m))

@@ -1,6 +1,6 @@
 -- The words below j are copied.
 use mathlib.Core.Path.{◌≡◌, ap, ◌∙◌}
-use Prim.Native.Nat.{ℕ, ◌-◌, ◌*◌}
+use Prim.Native.Nat.{ℕ, ◌*◌}
 use native.Mathlib.Omega.{arith}
 use lib.Seq.{sets}
 use Rattle.filed.specs.Copied.{copied}
