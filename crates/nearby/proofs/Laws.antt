@@ -1,8 +1,7 @@
 -- What the links found from the last to the first say of a count of neighbours; and one turn of each loop that finds them, over
 -- registers and lists. Leans on theory for counts by place, and on promise for what an accepted register has.
-use mathlib.Core.Path.{◌≡◌, refl, sym, ap, ◌∙◌}
+use mathlib.Core.Path.{◌≡◌, sym, ap, ◌∙◌}
 use mathlib.Core.Bool.{Bool, false, cond, ◌&&◌}
-use mathlib.Core.Logic.{inl, inr}
 use mathlib.Core.List.{List}
 use Prim.Native.Nat.{ℕ, zero, suc, ◌+◌, ◌-◌, ◌≤◌, ◌<◌}
 use native.Mathlib.Omega.{arith}
@@ -19,8 +18,8 @@ use Rattle.theory.proofs.CountLaws.{by_bool, by_eq, and_inv, sum_split, sum_zero
 use Rattle.theory.proofs.NeighbourLaws.{neighbours_places}
 use Rattle.meaning.specs.RegisterFile.{register_in, links_fine, fault}
 use Rattle.promise.proofs.Access.{fault_none, items_at, links_at, readable}
-use Rattle.register.specs.Told.{OfRegister, OfLink}
-use Rattle.nearby.specs.Nearby.{Last, Outs, Ins, UpTo, Parts}
+use Rattle.register.specs.Accepted.{OfRegister}
+use Rattle.nearby.specs.Nearby.{Last, UpTo, Parts}
 
 -- ---- for a count of neighbours
 
@@ -58,14 +57,11 @@ module _ (R : Register) (d : Direction) (l : ℕ) (P : ℕ → Bool) where
 -- ---- the last link below a place, one place further
 
 module _ (R : Register) (d : Direction) (x : ℕ) where
-  pub last_none : Last R d x 0 0
-  last_none = record { low = omega arith; gap = λ k h u. absurd (omega arith); own = inl refl }
-
   -- link j is x's, and so the last below j + 1; or it is not, and the last is as it was
   pub last_own : (j : ℕ) → near d (link_of R j) ≡ x → Last R d x (j + 1) (j + 1)
   last_own j e =
       let z : j + 1 - 1 ≡ j = omega arith in
-      record { low = omega arith; gap = λ k h u. absurd (omega arith); own = inr (rw z e) }
+      record { low = omega arith; gap = λ k h u. absurd (omega arith); own = λ h. rw z e }
 
   pub last_other : (j p : ℕ) → (near d (link_of R j) ≡ x → ⊥) → Last R d x j p → Last R d x (j + 1) p
   last_other j p e s =
@@ -80,9 +76,6 @@ pub record Heads (R : Register) (d : Direction) (c : List ℕ) (k : ℕ) : Type 
   pub so_far : (x : ℕ) → x < items R → Last R d x k (get_or c x 0)
 
 module _ (R : Register) (d : Direction) (c : List ℕ) where
-  pub heads_none : ((i : ℕ) → get_or c i 0 ≡ 0) → Heads R d c 0
-  heads_none z = record { so_far = λ x h. rw (z x) (last_none R d x) }
-
   -- link k is written at its near end
   pub heads_next : (k v : ℕ) → v ≡ near d (link_of R k) → v < length c → Heads R d c k → Heads R d (set c v (k + 1)) (k + 1)
   heads_next k v e h s =
@@ -105,18 +98,12 @@ pub target_near : (R : Register) (k v : ℕ) → v ≡ (link_of R k).target → 
 unfolding near
 target_near R k v e = e
 
-pub outs_all : (R : Register) (c : List ℕ) (m : ℕ) → m ≡ length R.links → Heads R Outgoing c m → Outs R c
-outs_all R c m e s = record { are = λ long x h. rw (← e) (s.so_far x h) }
-
 -- ---- and for each of the first k links the last before it with its target
 
 pub record Nexts (R : Register) (c : List ℕ) (k : ℕ) : Type 0 where
   pub so_far : (i : ℕ) → i < k → Last R Incoming (link_of R i).target i (get_or c (1024 + i) 0)
 
 module _ (R : Register) (c : List ℕ) where
-  pub nexts_none : Nexts R c 0
-  nexts_none = record { so_far = λ i h. absurd (omega arith) }
-
   -- link k takes over what stood at its target, v, in whose place it is written
   nexts_next : (k v w : ℕ) → items R ≤ 1024 → v ≡ (link_of R k).target → v < items R → 1024 + k < length c → Heads R Incoming c k → Nexts R c k →
       Nexts R (set (set c (1024 + k) (get_or c v 0)) v w) (k + 1)
@@ -140,9 +127,6 @@ module _ (R : Register) (c : List ℕ) where
         nexts_next k v (k + 1) few e u (omega arith) heads s,
       )
 
-pub ins_all : (R : Register) (c : List ℕ) (m : ℕ) → m ≡ length R.links → Heads R Incoming c m → Nexts R c m → Ins R c
-ins_all R c m e s t = record { heads = λ long x h. rw (← e) (s.so_far x h); nexts = λ long k h. t.so_far k (rw e h) }
-
 -- ---- links stand by source
 
 pub sources_rise : (b : List ℕ) → fault b ≡ 0 → (i j : ℕ) → i ≤ j → j < length (register_in b).links →
@@ -157,18 +141,11 @@ sources_rise b fine i j h u =
     (λ f. rw f (omega arith))
     (λ f. omega (arith, ascends_at link_key no_link R.links i j up (omega arith) u, e.1, e.2, r.few, items_at b))
 
--- link k can be asked for
-pub has_link_law : (b : List ℕ) (n m k : ℕ) → OfRegister b n m → k < m → OfLink b n k
-has_link_law b n m k o h = record { fine = o.fine; items_are = o.items_are; link_is = omega (arith, o.links_are) }
-
 module _ (b : List ℕ) (n m x : ℕ) (o : OfRegister b n m) where
   rise : (i j : ℕ) → i ≤ j → j < m → (link_of (register_in b) i).source ≤ (link_of (register_in b) j).source
   rise i j h u = sources_rise b o.fine i j h (omega (arith, o.links_are))
 
   -- ---- the search by halves
-
-  pub parts_none : Parts (register_in b) x 0 m
-  parts_none = record { less = λ k h. absurd (omega arith); more = λ k h u. absurd (omega (arith, o.links_are)) }
 
   pub parts_up : (low high p : ℕ) → p < m → (link_of (register_in b) p).source ≤ x → Parts (register_in b) x low high →
       Parts (register_in b) x (p + 1) high
@@ -177,25 +154,24 @@ module _ (b : List ℕ) (n m x : ℕ) (o : OfRegister b n m) where
   pub parts_down : (low high p : ℕ) → x < (link_of (register_in b) p).source → Parts (register_in b) x low high → Parts (register_in b) x low p
   parts_down low high p e s = record { less = s.less; more = λ k h u. omega (arith, rise p k h (omega (arith, o.links_are))) }
 
-  pub parts_met : (low high : ℕ) → low ≡ high → Parts (register_in b) x low high → Parts (register_in b) x low low
-  parts_met low high e s = record { less = s.less; more = λ k h u. s.more k (omega arith) u }
-
   -- ---- where no link below j has a later source
 
   -- the one before j is x's; or it is not, and all below j have an earlier source
   pub ending_own : (j : ℕ) → 1 ≤ j → (link_of (register_in b) (j - 1)).source ≡ x → Last (register_in b) Outgoing x j j
   unfolding near
-  ending_own j h e = record { low = omega arith; gap = λ k u v. absurd (omega arith); own = inr e }
+  ending_own j h e = record { low = omega arith; gap = λ k u v. absurd (omega arith); own = λ u. e }
 
-  pub ending_not : (j : ℕ) → 1 ≤ j → j ≤ m → UpTo (register_in b) x j → ((link_of (register_in b) (j - 1)).source ≡ x → ⊥) →
+  pub ending_not : (j : ℕ) → j ≤ m → UpTo (register_in b) x j → (1 ≤ j → (link_of (register_in b) (j - 1)).source ≡ x → ⊥) →
       Last (register_in b) Outgoing x j 0
   unfolding near
-  ending_not j h u up e =
-      let below : (link_of (register_in b) (j - 1)).source < x = omega (arith, up (j - 1) (omega arith), e) in
+  ending_not j u up e =
       record {
         low = omega arith;
-        gap = λ k v w. ne_eqb (link_of (register_in b) k).source x (λ f. omega (arith, rise k (j - 1) (omega arith) (omega arith)));
-        own = inl refl;
+        gap = λ k v w.
+            let h : 1 ≤ j = omega arith in
+            let below : (link_of (register_in b) (j - 1)).source < x = omega (arith, up (j - 1) (omega arith), e h) in
+            ne_eqb (link_of (register_in b) k).source x (λ f. omega (arith, rise k (j - 1) (omega arith) (omega arith)));
+        own = λ h. absurd (omega arith);
       }
 
   -- none from p on is x's, so that the last below p is the last of all
@@ -220,34 +196,13 @@ abbrev pub Passed : Register → ℕ → ℕ → ℕ → Type 0
 Passed R x j p = (k : ℕ) → p ≤ k → k < j → (link_of R k).target ≡ x → ⊥
 
 module _ (R : Register) (x j : ℕ) where
-  pub passed_next : (p : ℕ) → ((link_of R (p - 1)).target ≡ x → ⊥) → Passed R x j p → Passed R x j (p - 1)
-  passed_next p e s k h u f = by_eq k (p - 1) (λ g. e (rw g at f)) (λ g. s k (omega arith) u f)
-
-  pub passed_found : (p : ℕ) → p ≤ j → (link_of R (p - 1)).target ≡ x → Passed R x j p → Last R Incoming x j p
+  pub passed_found : (k : ℕ) → k < j → (link_of R k).target ≡ x → Passed R x j (k + 1) → Last R Incoming x j (k + 1)
   unfolding near
-  passed_found p h e s = record { low = h; gap = λ k u v. ne_eqb (link_of R k).target x (s k u v); own = inr e }
+  passed_found k h e s =
+      let z : k + 1 - 1 ≡ k = omega arith in
+      record { low = omega arith; gap = λ i u v. ne_eqb (link_of R i).target x (s i u v); own = λ u. rw z e }
 
   pub passed_all : Passed R x j 0 → Last R Incoming x j 0
   unfolding near
-  passed_all s = record { low = omega arith; gap = λ k u v. ne_eqb (link_of R k).target x (s k u v); own = inl refl }
-
--- ---- what stands in a list, read
-
-module _ (b : List ℕ) (n m x : ℕ) (o : OfRegister b n m) (c : List ℕ) where
-  pub read_out : (i : ℕ) → Outs (register_in b) c → length c ≡ 1024 → x < n → i ≡ x → Last (register_in b) Outgoing x m (get_or c i 0)
-  read_out i s long h e = rw (e, o.links_are) (s.are long x (omega (arith, o.items_are)))
-
-  pub read_in : (i : ℕ) → Ins (register_in b) c → length c ≡ 3072 → x < n → i ≡ x → Last (register_in b) Incoming x m (get_or c i 0)
-  read_in i s long h e = rw (e, o.links_are) (s.heads long x (omega (arith, o.items_are)))
-
-  pub read_next : (k : ℕ) → Ins (register_in b) c → length c ≡ 3072 → k < m → (link_of (register_in b) k).target ≡ x →
-      Last (register_in b) Incoming x k (get_or c (1024 + k) 0)
-  read_next k s long h e = rw (← e) (s.nexts long k (omega (arith, o.links_are)))
-
--- ---- for a caller: a list too short to say anything
-
-pub no_outs : (R : Register) (c : List ℕ) → length c < 1024 → Outs R c
-no_outs R c h = record { are = λ long x u. absurd (omega arith) }
-
-pub no_ins : (R : Register) (c : List ℕ) → length c < 3072 → Ins R c
-no_ins R c h = record { heads = λ long x u. absurd (omega arith); nexts = λ long k u. absurd (omega arith) }
+  passed_all s =
+      record { low = omega arith; gap = λ k u v. ne_eqb (link_of R k).target x (s k u v); own = λ h. absurd (omega arith) }

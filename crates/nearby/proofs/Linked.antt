@@ -4,8 +4,8 @@ use prog.Wired.{Code}
 use prog.Linked.{Tree, World, Holds, in_world}
 use prog.LinkedThreads.{HasT}
 use Rattle.nearby.proofs.TheLink
-use Rattle.nearby.proofs.before.Symbol as before-symbol
-use Rattle.nearby.proofs.last.Symbol as last-symbol
+use Rattle.nearby.proofs.Links.before.Symbol as Links-before-symbol
+use Rattle.nearby.proofs.Links.last.Symbol as Links-last-symbol
 use Rattle.nearby.proofs.put_ins.Symbol as put_ins-symbol
 use Rattle.nearby.proofs.put_outs.Symbol as put_outs-symbol
 
@@ -18,11 +18,11 @@ Below = TheLink.Below
 abbrev pub Found : Code → Type 0
 Found c = (W : World) → Holds W "nearby" table → Below W → HasT (in_world W) true c
 
-pub has-before : Found before-symbol.code
-has-before = TheLink.linked-nearby::before
+pub has-Links-before : Found Links-before-symbol.code
+has-Links-before = TheLink.linked-nearby::Links::before
 
-pub has-last : Found last-symbol.code
-has-last = TheLink.linked-nearby::last
+pub has-Links-last : Found Links-last-symbol.code
+has-Links-last = TheLink.linked-nearby::Links::last
 
 pub has-put_ins : Found put_ins-symbol.code
 has-put_ins = TheLink.linked-nearby::put_ins

@@ -1,6 +1,6 @@
 -- The links of one item, one way, found from the last to the first by the place behind each; and such places kept in a list for every
 -- item. Leans on meaning's Register.
-use Rattle.std.specs.Prelude.{ℕ, ◌+◌, ◌-◌, ◌≤◌, ◌<◌, ◌≡◌, false, ◌⊎◌, List, eqb, length, get_or}
+use Rattle.std.specs.Prelude.{ℕ, ◌+◌, ◌-◌, ◌≤◌, ◌<◌, ◌≡◌, false, List, eqb, length, get_or}
 use Rattle.meaning.specs.Register.{Register, items, link_of, near}
 use Rattle.meaning.specs.declared.Direction.{Direction}
 use Rattle.meaning.specs.declared.Direction.TheVariants.{Outgoing, Incoming}
@@ -9,7 +9,7 @@ use Rattle.meaning.specs.declared.Direction.TheVariants.{Outgoing, Incoming}
 pub record Last (R : Register) (d : Direction) (x j p : ℕ) : Type 0 where
   pub low : p ≤ j
   pub gap : (k : ℕ) → p ≤ k → k < j → eqb (near d (link_of R k)) x ≡ false
-  pub own : (p ≡ 0) ⊎ (near d (link_of R (p - 1)) ≡ x)
+  pub own : 1 ≤ p → near d (link_of R (p - 1)) ≡ x
 
 -- for each item the place behind its last outgoing link; or, at any other length, nothing is said
 pub record Outs (R : Register) (outs : List ℕ) : Type 0 where

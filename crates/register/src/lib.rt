@@ -27,6 +27,13 @@ pub struct Register<'a> {
     pub ghost long: { length bytes.now ≡ register_size items links },
 }
 
+// Links by that label, seen that way.
+#[derive(Clone, Copy)]
+pub struct Along {
+    pub way: Direction,
+    pub label: u8,
+}
+
 impl Register<'_> {
     pub fn marks(&self, x: Item) -> u32
         requires { x.0 < self.now.items }

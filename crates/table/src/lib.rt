@@ -2,23 +2,20 @@
 // entry to the first. A writer of row j reads the rows behind it and leaves them as they are. Leans on register for marks and links.
 #![tactic(auto)]
 
-ghost use Rattle.std.specs.Prelude.{◌≡◌, true, not, ◌+◌, ◌*◌, ◌≤◌, ◌<◌, leb, length, get_or};
+ghost use Rattle.std.specs.Prelude.{◌≡◌, true, not, ◌+◌, ◌≤◌, ◌<◌, leb, get_or};
 ghost use Rattle.meaning.specs.Register.{leads, link_of};
 ghost use Rattle.meaning.specs.RegisterFile.{register_in};
-ghost use Rattle.register.specs.Told.{OfLink, OfRegister};
 ghost use Rattle.table.specs.Row.{Room, row, Writes, paired, Counts, Below, Adds};
 
-use meaning::Direction;
+use register::{Along, Register};
 
 // True at every item.
 pub fn put_true(table: &mut [bool], n: usize, j: usize)
     requires { Room table.old n j }
     ensures { Writes table.old table.new n j (λ x. true) }
 {
-    let mut x = 0;
-    while x < n {
+    for x in 0..n {
         table[1024 * j + x] = true;
-        x += 1;
     }
 }
 
@@ -27,10 +24,8 @@ pub fn put_not(table: &mut [bool], n: usize, j: usize)
     requires { Room table.old n (j + 1) }
     ensures { Writes table.old table.new n j (λ x. not (row table.old (j + 1) x)) }
 {
-    let mut x = 0;
-    while x < n {
+    for x in 0..n {
         table[1024 * j + x] = !table[1024 * (j + 1) + x];
-        x += 1;
     }
 }
 
@@ -40,12 +35,10 @@ pub fn put_pair(table: &mut [bool], n: usize, j: usize, k: usize, any: bool)
     ensures { Writes table.old table.new n j
         (λ x. paired any (row table.old (j + 1) x) (row table.old k x)) }
 {
-    let mut x = 0;
-    while x < n {
+    for x in 0..n {
         let first = table[1024 * (j + 1) + x];
         let second = table[1024 * k + x];
         table[1024 * j + x] = joined(any, first, second);
-        x += 1;
     }
 }
 
@@ -60,35 +53,23 @@ fn joined(any: bool, first: bool, second: bool) -> bool
 }
 
 // "at least t .. neighbours .. satisfy the operand": where the counts reach t.
-pub fn put_reached(table: &mut [bool], n: usize, j: usize, counts: &[u16], t: u16)
-    requires { Room table.old n j × (length counts.now ≡ 1024) }
+pub fn put_reached(table: &mut [bool], n: usize, j: usize, counts: &[u16; 1024], t: u16)
+    requires { Room table.old n j }
     ensures { Writes table.old table.new n j (λ x. leb t (get_or counts.now x 0)) }
 {
-    let mut x = 0;
-    while x < n {
+    for x in 0..n {
         table[1024 * j + x] = t <= counts[x];
-        x += 1;
     }
 }
 
-// How many neighbours each item has, that way and by that label, at which row j holds.
-pub fn count(
-    table: &[bool],
-    j: usize,
-    reg: &[u8],
-    n: usize,
-    m: usize,
-    way: Direction,
-    label: u8,
-) -> [u16; 1024]
-    requires { Room table.now n j × OfRegister reg.now n m }
-    ensures { Counts result reg.now n way label (row table.now j) }
+// How many neighbours each item has, along such links, at which row j holds.
+pub fn count(table: &[bool], j: usize, reg: &Register, along: Along) -> [u16; 1024]
+    requires { Room table.now reg.now.items j }
+    ensures { Counts result reg.now.bytes.now reg.now.items along.way along.label (row table.now j) }
 {
     let mut counts = [0u16; 1024];
-    let mut k = 0;
-    while k < m {
-        count_link(table, j, reg, n, k, way, label, &mut counts);
-        k += 1;
+    for k in 0..reg.links {
+        count_link(table, j, reg, k, along, &mut counts);
     }
     counts
 }
@@ -97,24 +78,16 @@ pub fn count(
 fn count_link(
     table: &[bool],
     j: usize,
-    reg: &[u8],
-    n: usize,
+    reg: &Register,
     k: usize,
-    way: Direction,
-    label: u8,
-    counts: &mut [u16],
+    along: Along,
+    counts: &mut [u16; 1024],
 )
-    requires { Room table.now n j × OfLink reg.now n k × Below counts.old 2048 }
+    requires { Room table.now reg.now.items j × (k < reg.now.links) × Below counts.old 2048 }
     ensures { Adds counts.old counts.new
-        (λ x. leads way label (row table.now j) x (link_of (register_in reg.now) k)) }
+        (λ x. leads along.way along.label (row table.now j) x (link_of (register_in reg.now.bytes.now) k)) }
 {
-    if register::label(reg, n, k) != label {
-        return;
+    if reg.label(k) == along.label && table[1024 * j + reg.far(k, along.way).index()] {
+        counts[reg.near(k, along.way).index()] += 1;
     }
-    let far = register::far(reg, n, k, way).index();
-    if !table[1024 * j + far] {
-        return;
-    }
-    let near = register::near(reg, n, k, way).index();
-    counts[near] += 1;
 }

@@ -1,11 +1,7 @@
 -- Each item of the row is written true.
 use mathlib.Core.Bool.{true}
-use Prim.Native.Nat.{◌-◌, ◌≤◌}
 use Rattle.table.proofs.Laws.{Part}
 use Rattle.table.proofs.put_true.Given as goal
 
 abbrev pub invariant-loop-x : goal.invariant-loop-x
-invariant-loop-x l = (l.x ≤ l.n) × Part l.initial.table l.table l.j (λ y. true) l.x
-
-abbrev pub decreases-loop-x : goal.decreases-loop-x
-decreases-loop-x l = l.n - l.x
+invariant-loop-x l = Part l.initial.table l.table l.j (λ y. true) l.x
