@@ -16,7 +16,8 @@ use Rattle.lists.specs.Writes.{Writes}
 use Rattle.lists.proofs.Laws.{places, two_written}
 use Rattle.seek.specs.Keys.{same_members}
 use Rattle.reader.specs.Sized.{edge_of}
-use Rattle.matching.specs.Keys.{key_for, row_keys, asked_key, asked_keys, Keyed}
+use Rattle.header.specs.Keyed.{row_keys, Keyed}
+use Rattle.matching.specs.Keys.{key_for, asked_key, asked_keys}
 use Rattle.matching.proofs.Match.{rows_matched}
 
 -- ---- the keys of rows

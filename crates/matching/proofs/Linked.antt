@@ -4,7 +4,7 @@ use prog.Wired.{Code}
 use prog.Linked.{Tree, World, Holds, in_world}
 use prog.LinkedThreads.{HasT}
 use Rattle.matching.proofs.TheLink
-use Rattle.matching.proofs.rows_match.Symbol as rows_match-symbol
+use Rattle.matching.proofs.Ordered.rows_match.Symbol as Ordered-rows_match-symbol
 
 abbrev pub table : Tree
 table = TheLink.table
@@ -15,5 +15,5 @@ Below = TheLink.Below
 abbrev pub Found : Code → Type 0
 Found c = (W : World) → Holds W "matching" table → Below W → HasT (in_world W) true c
 
-pub has-rows_match : Found rows_match-symbol.code
-has-rows_match = TheLink.linked-matching::rows_match
+pub has-Ordered-rows_match : Found Ordered-rows_match-symbol.code
+has-Ordered-rows_match = TheLink.linked-matching::Ordered::rows_match

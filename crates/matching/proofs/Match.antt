@@ -20,7 +20,8 @@ use Rattle.theory.proofs.MatchLaws.{leads_parts, leads_make}
 use Rattle.theory.proofs.OneLaws.{three, way_tells, way_small}
 use Rattle.lists.proofs.Laws.{in_tab, of_tab}
 use Rattle.seek.specs.Keys.{same_members}
-use Rattle.matching.specs.Keys.{key_for, row_keys, asked_key, asked_keys}
+use Rattle.header.specs.Keyed.{row_keys}
+use Rattle.matching.specs.Keys.{key_for, asked_key, asked_keys}
 
 -- ---- fields side by side
 
