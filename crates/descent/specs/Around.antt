@@ -1,18 +1,14 @@
 -- What is at hand where a question is asked of a register from an item downwards, what an item's links are asked, and what is said. Leans on
--- nearby for the links of an item, on memo for two operands and on meaning for where a question holds.
-use Rattle.std.specs.Prelude.{ℕ, ◌≡◌, Bool, true, not, ◌&&◌, List, leb, eqb, get_or}
+-- nearby for the links of an item, on memo for what is said of a tree and on meaning for where a question holds.
+use Rattle.std.specs.Prelude.{Result, Ok, Err, ℕ, ◌≡◌, Bool, ◌&&◌, List, leb, eqb, get_or}
 use Rattle.meaning.specs.Register.{Register, link_of, far, neighbours}
 use Rattle.meaning.specs.declared.Direction.{Direction}
 use Rattle.meaning.specs.Question.{Question, holds}
 use Rattle.meaning.specs.RegisterFile.{register_in}
 use Rattle.register.specs.Told.{OfRegister}
-use Rattle.meaning.specs.declared.Kind.{Kind}
-use Rattle.question.specs.Read.{Parsed}
-use Rattle.question.specs.declared.Asked.TheVariants as asks
-use Rattle.memo.specs.Kept as kept
+use Rattle.memo.specs.Kept.{Says}
 use Rattle.nearby.specs.Nearby.{Outs, Ins}
-use Rattle.descent.specs.declared.Descended.{Descended}
-use Rattle.descent.specs.declared.Descended.TheVariants.{Said, OutOfSteps, Refused}
+use Rattle.descent.specs.declared.Unsaid.{Unsaid}
 
 -- an accepted register, and where its items' links end
 pub record Around (reg : List ℕ) (n m : ℕ) (outs ins : List ℕ) : Type 0 where
@@ -32,18 +28,7 @@ reaching R d l n x t = leb n (neighbours R d l (holds R t) x)
 abbrev pub leading : Register → Direction → ℕ → ℕ → Question → Bool
 leading R d l k t = eqb (link_of R k).label l && holds R t (far d (link_of R k))
 
--- what is said of the tree at entry i is so
-abbrev pub Tells : List ℕ → ℕ → (Question → Bool) → Descended → Type 0
-Tells q i so r = (t : Question) (k : ℕ) → Parsed q i t k → (b : Bool) → r ≡ Said b → b ≡ so t
-
--- "not, one operand"
-abbrev pub turned : Descended → Descended
-turned (Said b) = Said (not b)
-turned OutOfSteps = OutOfSteps
-turned (Refused r) = Refused r
-
--- "and, or": whether the first operand decides
-abbrev pub decides : Kind → Descended → Bool
-decides k (Said b) = kept.decides k (asks.Said b)
-decides k OutOfSteps = true
-decides k (Refused r) = true
+-- what is said of the tree at entry i is so, if it is said
+abbrev pub Tells : List ℕ → ℕ → (Question → Bool) → Result Bool Unsaid → Type 0
+Tells q i so (Ok b) = Says q i so b
+Tells q i so (Err u) = Unit {0}

@@ -9,46 +9,34 @@ ghost use Rattle.register.specs.Told.{OfRegister};
 ghost use Rattle.memo.specs.Kept.{Remembers};
 ghost use Rattle.nearby.specs.Nearby.{Outs, Ins};
 ghost use Rattle.descent.specs.Around.{Around, Tells, reaching, leading, Cleared};
-ghost use Rattle.descent.specs.Around as around;
 
-use entry::Reading;
 use meaning::{Direction, Kind, Refusal};
 use names::Item;
-use question::{Asked, Spanned};
 
 // So many operands are asked one by one; a question that needs more is better asked at all items at once.
 const MOST_STEPS: u16 = 4096;
 
-// Whether a question holds where it was asked, as far as the steps go. Out of steps is no refusal: nothing is said, and who asked asks at all
-// items at once.
+// Why it was not said whether a question holds. Out of steps is no refusal: who asked asks at all items at once.
 #[derive(Clone, Copy)]
-pub enum Descended {
-    Said(bool),
+pub enum Unsaid {
     OutOfSteps,
-    Refused(Refusal),
-}
-
-// Whether some entry asks for incoming neighbours.
-#[derive(Clone, Copy)]
-enum Incoming {
-    Wanted(bool),
     Refused(Refusal),
 }
 
 // Whether the question, which has that depth, holds at the item, if that is soon said. Where no at-least stands inside another, nothing is
 // worth keeping.
-pub fn ask(reg: &[u8], n: usize, m: usize, q: &[u8], depth: usize, x: Item) -> Descended
+pub fn ask(reg: &[u8], n: usize, m: usize, q: &[u8], depth: usize, x: Item) -> Result<bool, Unsaid>
     requires { OfRegister reg.now n m × (x.0 < n) }
     ensures { Tells q.now 0 (λ t. meant.holds (register_in reg.now) t x.0) result }
 {
     if depth < 2 {
         let mut nothing = [0u8; 1];
-        let mut steps = [MOST_STEPS; 1];
+        let mut steps = MOST_STEPS;
         let none = [0u16; 1];
         return holds(q, 0, reg, n, m, &none, &none, &mut nothing, &mut steps, x);
     }
-    let Incoming::Wanted(incoming) = asks_incoming(q) else {
-        return Descended::Refused(Refusal::Question);
+    let Ok(incoming) = asks_incoming(q) else {
+        return Err(Unsaid::Refused(Refusal::Question));
     };
     let mut outs = [0u16; 1024];
     let mut ins = [0u16; 3072];
@@ -66,11 +54,11 @@ fn ask_deep(
     outs: &[u16],
     ins: &[u16],
     x: Item,
-) -> Descended
+) -> Result<bool, Unsaid>
     requires { Around reg.now n m outs.now ins.now × (x.0 < n) }
     ensures { Tells q.now 0 (λ t. meant.holds (register_in reg.now) t x.0) result }
 {
-    let mut steps = [MOST_STEPS; 1];
+    let mut steps = MOST_STEPS;
     if q.len() <= 64 {
         let mut little = [0u8; 16384];
         return holds(q, 0, reg, n, m, outs, ins, &mut little, &mut steps, x);
@@ -103,35 +91,23 @@ fn put_ins(reg: &[u8], n: usize, m: usize, incoming: bool, ins: &mut [u16]) -> u
     3072
 }
 
-// Entry by entry, up to the first that does.
-fn asks_incoming(q: &[u8]) -> Incoming {
-    let mut j = 0;
-    while j < q.len() / 4 {
-        let Reading::Entry(kind) = entry::read(q, j) else {
-            return Incoming::Refused(Refusal::Question);
+// Whether some entry is one of "the same, incoming".
+fn asks_incoming(q: &[u8]) -> Result<bool, Refusal> {
+    for j in 0..q.len() / 4 {
+        let Some(kind) = entry::read(q, j) else {
+            return Err(Refusal::Question);
         };
-        if is_incoming(kind) {
-            return Incoming::Wanted(true);
+        if matches!(
+            kind,
+            Kind::AtLeast {
+                direction: Direction::Incoming,
+                ..
+            }
+        ) {
+            return Ok(true);
         }
-        j += 1;
     }
-    Incoming::Wanted(false)
-}
-
-// Whether the entry is one of "the same, incoming".
-fn is_incoming(kind: Kind) -> bool {
-    let Kind::AtLeast {
-        direction,
-        label: _,
-        threshold: _,
-    } = kind
-    else {
-        return false;
-    };
-    match direction {
-        Direction::Outgoing => false,
-        Direction::Incoming => true,
-    }
+    Ok(false)
 }
 
 // Whether the tree at entry `at` holds at the item.
@@ -145,34 +121,35 @@ fn holds(
     outs: &[u16],
     ins: &[u16],
     known: &mut [u8],
-    steps: &mut [u16],
+    steps: &mut u16,
     x: Item,
-) -> Descended
+) -> Result<bool, Unsaid>
     requires { Around reg.now n m outs.now ins.now × Remembers q.now (meant.holds (register_in reg.now)) known.old × (x.0 < n) }
     ensures tells { Tells q.now at (λ t. meant.holds (register_in reg.now) t x.0) result }
     ensures known { Remembers q.now (meant.holds (register_in reg.now)) known.new }
 {
-    let Reading::Entry(kind) = entry::read(q, at) else {
-        return Descended::Refused(Refusal::Question);
+    let Some(kind) = entry::read(q, at) else {
+        return Err(Unsaid::Refused(Refusal::Question));
     };
     match kind {
-        Kind::True => Descended::Said(true),
-        Kind::Literal(literal) => Descended::Said(entry::shows(register::marks(reg, x), literal)),
-        Kind::Not => turned(holds(q, at + 1, reg, n, m, outs, ins, known, steps, x)),
+        Kind::True => Ok(true),
+        Kind::Literal(literal) => Ok(entry::shows(register::marks(reg, x), literal)),
+        Kind::Not => match holds(q, at + 1, reg, n, m, outs, ins, known, steps, x) {
+            Ok(yes) => Ok(!yes),
+            Err(unsaid) => Err(unsaid),
+        },
         Kind::And | Kind::Or => {
-            let first = holds(q, at + 1, reg, n, m, outs, ins, known, steps, x);
-            if decides(kind, first) {
-                return first;
-            }
-            let Spanned::Tree {
-                depth: _,
-                threshold: _,
-                next,
-            } = question::span(q, at + 1)
-            else {
-                return Descended::Refused(Refusal::Question);
+            let first = match holds(q, at + 1, reg, n, m, outs, ins, known, steps, x) {
+                Ok(yes) => yes,
+                Err(unsaid) => return Err(unsaid),
             };
-            holds(q, next, reg, n, m, outs, ins, known, steps, x)
+            if memo::decides(kind, first) {
+                return Ok(first);
+            }
+            let Ok(operand) = question::span(q, at + 1) else {
+                return Err(Unsaid::Refused(Refusal::Question));
+            };
+            holds(q, operand.next, reg, n, m, outs, ins, known, steps, x)
         }
         Kind::AtLeast {
             direction,
@@ -208,12 +185,12 @@ fn reaches(
     outs: &[u16],
     ins: &[u16],
     known: &mut [u8],
-    steps: &mut [u16],
+    steps: &mut u16,
     way: Direction,
     label: u8,
     threshold: u8,
     x: Item,
-) -> Descended
+) -> Result<bool, Unsaid>
     requires { Around reg.now n m outs.now ins.now × Remembers q.now (meant.holds (register_in reg.now)) known.old × (1 ≤ threshold)
         × (threshold ≤ 8) × (x.0 < n) }
     ensures tells { Tells q.now at (reaching (register_in reg.now) way label threshold x.0) result }
@@ -236,16 +213,17 @@ fn reaches(
             label,
             place - 1,
         );
-        let Descended::Said(yes) = led else {
-            return led;
+        let yes = match led {
+            Ok(yes) => yes,
+            Err(unsaid) => return Err(unsaid),
         };
         met = added(met, yes);
         if met == threshold {
-            return Descended::Said(true);
+            return Ok(true);
         }
         place = nearby::before(reg, n, m, ins, way, x, place);
     }
-    Descended::Said(false)
+    Ok(false)
 }
 
 // One more, where the operand holds.
@@ -267,63 +245,40 @@ fn leads(
     outs: &[u16],
     ins: &[u16],
     known: &mut [u8],
-    steps: &mut [u16],
+    steps: &mut u16,
     way: Direction,
     label: u8,
     link: usize,
-) -> Descended
+) -> Result<bool, Unsaid>
     requires { Around reg.now n m outs.now ins.now × Remembers q.now (meant.holds (register_in reg.now)) known.old × (link < m) }
     ensures tells { Tells q.now at (leading (register_in reg.now) way label link) result }
     ensures known { Remembers q.now (meant.holds (register_in reg.now)) known.new }
 {
     if register::label(reg, n, link) != label {
-        return Descended::Said(false);
+        return Ok(false);
     }
     let neighbour = register::far(reg, n, link, way);
     let slot = memo::slot_of(at, neighbour.0);
-    let told = memo::recalled(known, slot);
-    if told != 0 {
-        return Descended::Said(told == 2);
+    if let Some(yes) = memo::recalled(known, slot) {
+        return Ok(yes);
     }
     if spent(steps) {
-        return Descended::OutOfSteps;
+        return Err(Unsaid::OutOfSteps);
     }
-    let there = holds(q, at, reg, n, m, outs, ins, known, steps, neighbour);
-    let Descended::Said(yes) = there else {
-        return there;
-    };
-    memo::remember(known, slot, yes);
-    Descended::Said(yes)
-}
-
-// "not, one operand".
-fn turned(operand: Descended) -> Descended
-    ensures { result ≡ around.turned operand }
-{
-    let Descended::Said(yes) = operand else {
-        return operand;
-    };
-    Descended::Said(!yes)
-}
-
-// "and, or, two operands": whether the first one's answer is the whole's, so that the second need not be asked.
-fn decides(kind: Kind, first: Descended) -> bool
-    ensures { result ≡ around.decides kind first }
-{
-    let Descended::Said(yes) = first else {
-        return true;
-    };
-    memo::decides(kind, Asked::Said(yes))
+    match holds(q, at, reg, n, m, outs, ins, known, steps, neighbour) {
+        Ok(yes) => {
+            memo::remember(known, slot, yes);
+            Ok(yes)
+        }
+        Err(unsaid) => Err(unsaid),
+    }
 }
 
 // One step less; none was left.
-fn spent(steps: &mut [u16]) -> bool {
-    if steps.len() == 0 {
+fn spent(steps: &mut u16) -> bool {
+    if *steps == 0 {
         return true;
     }
-    if steps[0] == 0 {
-        return true;
-    }
-    steps[0] -= 1;
+    *steps -= 1;
     false
 }

@@ -15,7 +15,7 @@ use lib.Seq.{get_or-set_same, get_or-set_other, set_out}
 use Rattle.std.proofs.Common.{Some, Ok}
 use Rattle.meaning.specs.declared.Kind.{Kind}
 use Rattle.meaning.specs.declared.Kind.TheVariants.{True, Literal, Not}
-use Rattle.meaning.specs.Question.{Question, always, literal, negation, both, either}
+use Rattle.meaning.specs.Question.{Question, always, literal, negation, both, either, shows}
 use Rattle.theory.proofs.CountLaws.{by_bool, by_eq}
 use Rattle.entry.specs.Entries.{entry_at}
 use Rattle.question.specs.declared.Tree.{Tree}
@@ -43,20 +43,27 @@ undecided true false y h = refl
 undecided false true y h = refl
 undecided false false y h = cc
 
--- ---- what is said of a tree, by the kind of its first entry; of any truth that takes trees apart so
+-- ---- what is said of a tree, by the kind of its first entry
 
-module _ (so : Question → Bool) (q : List ℕ) (i : ℕ) where
-  pub says_true : so always ≡ true → entry_at q i ≡ some True → Says q i so true
-  says_true s e t k p = sym (ap so (parsed_true p e).0 ∙ s)
+-- a truth that takes trees apart as document 01 does, where these marks are looked at
+pub record Truth (m : ℕ) (so : Question → Bool) : Type 0 where
+  pub at_true : so always ≡ true
+  pub at_literal : (z : ℤ) → so (literal z) ≡ shows m z
+  pub at_not : (t : Question) → so (negation t) ≡ not (so t)
+  pub at_and : (t u : Question) → so (both t u) ≡ so t && so u
+  pub at_or : (t u : Question) → so (either t u) ≡ so t || so u
 
-  pub says_literal : (z : ℤ) (b : Bool) → b ≡ so (literal z) → entry_at q i ≡ some (Literal z) → Says q i so b
-  says_literal z b s e t k p = s ∙ sym (ap so (parsed_literal p e).0)
+module _ {m : ℕ} {so : Question → Bool} (w : Truth m so) (q : List ℕ) (i : ℕ) where
+  pub says_true : entry_at q i ≡ some True → Says q i so true
+  says_true e t k p = sym (ap so (parsed_true p e).0 ∙ w.at_true)
 
-  pub says_not : ((t : Question) → so (negation t) ≡ not (so t)) → (b : Bool) → entry_at q i ≡ some Not → Says q (i + 1) so b → Says q i so (not b)
-  says_not s b e f t k p = let o = parsed_not p e in ap not (f o.0 k o.2) ∙ sym (ap so o.1 ∙ s o.0)
+  pub says_literal : (z : ℤ) (n : ℕ) (b : Bool) → entry_at q i ≡ some (Literal z) → n ≡ m → b ≡ shows n z → Says q i so b
+  says_literal z n b e f g t k p = g ∙ ap (λ (n : ℕ). shows n z) f ∙ sym (ap so (parsed_literal p e).0 ∙ w.at_literal z)
 
-  module _ (so-and : (t u : Question) → so (both t u) ≡ so t && so u) (so-or : (t u : Question) → so (either t u) ≡ so t || so u)
-      (kind : Kind) (two : Two kind) (e : entry_at q i ≡ some kind) where
+  pub says_not : (b : Bool) → entry_at q i ≡ some Not → Says q (i + 1) so b → Says q i so (not b)
+  says_not b e f t k p = let o = parsed_not p e in ap not (f o.0 k o.2) ∙ sym (ap so o.1 ∙ w.at_not o.0)
+
+  module _ (kind : Kind) (two : Two kind) (e : entry_at q i ≡ some kind) where
     -- the first operand stands at the next entry, the second where the first ends
     operands : (t : Question) (k : ℕ) → Parsed q i t k →
         (p : Question) × (r : Question) × (m : ℕ) × (so t ≡ joins (any kind) (so p) (so r)) × Parsed q (i + 1) p m × Parsed q m r k
@@ -64,10 +71,10 @@ module _ (so : Question → Bool) (q : List ℕ) (i : ℕ) where
         ⊎_elim
         (λ h.
         let o = parsed_and p (e ∙ ap some h) in
-        (o.0, o.1, o.2, ap so o.3 ∙ so-and o.0 o.1 ∙ ap (λ (b : Bool). joins b (so o.0) (so o.1)) (sym (ap any h)), o.4, o.5))
+        (o.0, o.1, o.2, ap so o.3 ∙ w.at_and o.0 o.1 ∙ ap (λ (b : Bool). joins b (so o.0) (so o.1)) (sym (ap any h)), o.4, o.5))
         (λ h.
         let o = parsed_or p (e ∙ ap some h) in
-        (o.0, o.1, o.2, ap so o.3 ∙ so-or o.0 o.1 ∙ ap (λ (b : Bool). joins b (so o.0) (so o.1)) (sym (ap any h)), o.4, o.5))
+        (o.0, o.1, o.2, ap so o.3 ∙ w.at_or o.0 o.1 ∙ ap (λ (b : Bool). joins b (so o.0) (so o.1)) (sym (ap any h)), o.4, o.5))
         two
 
     module _ (b : Bool) (first : Says q (i + 1) so b) where

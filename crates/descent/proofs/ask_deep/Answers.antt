@@ -6,11 +6,5 @@ use Rattle.descent.proofs.ask_deep.Goals as goal
 pub holds-requires : goal.holds-requires
 holds-requires c = let s = c.requires in (s.0, remembers_none _ _ 16384 (omega arith), s.1)
 
-pub returns-then-q-le64 : goal.returns-then-q-le64
-returns-then-q-le64 c = c.holds.ensures.tells
-
 pub holds-requires-2 : goal.holds-requires-2
 holds-requires-2 c = let s = c.requires in (s.0, remembers_none _ _ 65536 (omega arith), s.1)
-
-pub returns : goal.returns
-returns c = c.holds-2.ensures.tells
