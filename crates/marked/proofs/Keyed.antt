@@ -2,13 +2,13 @@
 -- that items alike have the same. Leans on order's laws of sorted lists and on theory's laws of lowest items.
 use mathlib.Core.Path.{◌≡◌, sym, ap, ◌∙◌}
 use mathlib.Core.Bool.{Bool, true}
-use mathlib.Core.List.{List, [], ◌∷◌, ◌++◌}
+use mathlib.Core.List.{List, [], ◌∷◌}
 use Prim.Native.Nat.{ℕ, zero, suc, ◌-◌, ◌/◌, ◌≤◌, ◌<◌}
 use native.Mathlib.Omega.{arith}
 use borrow.Author.Tests.{eqb-true, ltb-true, ltb-false}
 use lib.Dec.{eqb, ltb}
-use lib.ListN.{length, get_or, drop, length-append, get_or-append}
-use lib.Seq.{take_at}
+use lib.ListN.{length, get_or}
+use lib.Seq.{take-length}
 use Rattle.meaning.specs.Count.{tab, seek, total}
 use Rattle.meaning.specs.Level.{first, Equivalence}
 use Rattle.theory.proofs.CountLaws.{by_bool, by_eq, eqb_refl, seek_end, seek_le, seek_passes, length_tab, get_d_tab}
@@ -36,31 +36,27 @@ times_at [] p h = absurd (omega arith)
 times_at (x ∷ l) zero h = rw (eqb_refl x) (omega arith)
 times_at (x ∷ l) (suc p) h = omega (arith, times_at l p (omega arith))
 
-module _ (key : ℕ → ℕ) (n : ℕ) (old rest s : List ℕ) (e : s ≡ sorted (tab (pack key) n ++ drop n old) n ++ rest) where
-  same : (v : ℕ) → times v (sorted (tab (pack key) n ++ drop n old) n) ≡ times v (tab (pack key) n)
+module _ (key : ℕ → ℕ) (n : ℕ) (s : List ℕ) (e : s ≡ sorted (tab (pack key) n) n) where
+  same : (v : ℕ) → times v s ≡ times v (tab (pack key) n)
   same v =
-      let h : n ≤ length (tab (pack key) n ++ drop n old) = omega (arith, length-append (tab (pack key) n) (drop n old), length_tab (pack key) n) in
-      sorted_times v (tab (pack key) n ++ drop n old) n h ∙ ap (times v) (take_at (tab (pack key) n) (drop n old) n (length_tab (pack key) n))
+      let h : length (tab (pack key) n) ≡ n = length_tab (pack key) n in
+      rw e (sorted_times v (tab (pack key) n) n (omega arith) ∙ ap (times v) (rw h at (take-length (tab (pack key) n))))
 
-  at : (p : ℕ) → p < n → get_or s p 0 ≡ get_or (sorted (tab (pack key) n ++ drop n old) n) p 0
-  at p h = ap (λ (l : List ℕ). get_or l p 0) e ∙ get_or-append (sorted (tab (pack key) n ++ drop n old) n) rest 0 p (rw (length_sorted (tab (pack key) n ++ drop n old) n) h)
+  long : length s ≡ n
+  long = ap length e ∙ length_sorted (tab (pack key) n) n
 
   pub listed : Listed key n s
-  listed =
-      let S = sorted (tab (pack key) n ++ drop n old) n in
-      let len : length S ≡ n = length_sorted (tab (pack key) n ++ drop n old) n in
-      record {
-        here = λ p h.
-            let r = times_find (get_or S p 0) (tab (pack key) n) (omega (arith, same (get_or S p 0), times_at S p (omega arith))) in
-            let k : r.0 < n = omega (arith, r.1, length_tab (pack key) n) in
-            (r.0, k, at p h ∙ sym r.2 ∙ get_d_tab (pack key) 0 n r.0 k);
-        there = λ y h.
-            let v = get_or (tab (pack key) n) y 0 in
-            let r = times_find v S (omega (arith, same v, times_at (tab (pack key) n) y (omega (arith, length_tab (pack key) n)))) in
-            let k : r.0 < n = omega (arith, r.1) in
-            (r.0, k, at r.0 k ∙ r.2 ∙ get_d_tab (pack key) 0 n y h);
-        up = λ p q h g. rw (at p (omega arith), at q g) (ascends_up 0 S p q (sorted_ascends (tab (pack key) n ++ drop n old) n) h (omega arith));
-      }
+  listed = record {
+    here = λ p h.
+        let r = times_find (get_or s p 0) (tab (pack key) n) (omega (arith, same (get_or s p 0), times_at s p (omega (arith, long)))) in
+        let k : r.0 < n = omega (arith, r.1, length_tab (pack key) n) in
+        (r.0, k, sym r.2 ∙ get_d_tab (pack key) 0 n r.0 k);
+    there = λ y h.
+        let v = get_or (tab (pack key) n) y 0 in
+        let r = times_find v s (omega (arith, same v, times_at (tab (pack key) n) y (omega (arith, length_tab (pack key) n)))) in
+        (r.0, omega (arith, r.1, long), r.2 ∙ get_d_tab (pack key) 0 n y h);
+    up = λ p q h g. ascends_up 0 s p q (rw e (sorted_ascends (tab (pack key) n) n)) h (omega (arith, long));
+  }
 
 -- ---- the first one alike
 

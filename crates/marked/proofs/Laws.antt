@@ -1,18 +1,18 @@
 -- The walk over the sorted items, and equal marks: numbers by marks are the class list of level 0. Leans on Keyed.
 use mathlib.Core.Path.{◌≡◌, refl, sym, ap, ◌∙◌}
 use mathlib.Core.Bool.{true}
-use mathlib.Core.List.{List, ◌++◌}
+use mathlib.Core.List.{List}
 use mathlib.Core.Logic.{⊎_elim, ◌⊎◌}
 use Prim.Native.Nat.{ℕ, ◌+◌, ◌-◌, ◌/◌, ◌≤◌, ◌<◌}
 use native.Mathlib.Omega.{arith}
 use borrow.Author.Tests.{eq-eqb, eqb-true, eqb-false, ltb-true, ltb-false}
 use lib.Dec.{eqb, ltb}
-use lib.ListN.{length, get_or, drop, set}
+use lib.ListN.{length, get_or, set}
 use lib.Seq.{get_or-set_same, get_or-set_other}
 use Rattle.meaning.specs.Count.{tab, seek}
 use Rattle.meaning.specs.Register.{Register, items, marks_of}
 use Rattle.meaning.specs.Level.{first, number, alike, class_list, Equivalence}
-use Rattle.theory.proofs.CountLaws.{by_bool, by_eq, eqb_refl, tab_same}
+use Rattle.theory.proofs.CountLaws.{by_bool, by_eq, eqb_refl, length_tab, tab_same}
 use Rattle.theory.proofs.NumberLaws.{number_cong}
 use Rattle.order.specs.Sorted.{sorted}
 use Rattle.order.proofs.Front.{seek_found, seek_over}
@@ -83,8 +83,10 @@ pub item_small : (key : ℕ → ℕ) (n : ℕ) (s : List ℕ) → n ≤ 1024 →
 item_small key n s few li q h = let z = li.here q h in omega (arith, z.1, z.2)
 
 -- the packed items, sorted
-pub keys_listed : (key : ℕ → ℕ) (n : ℕ) (old a s : List ℕ) → a ≡ tab (pack key) n ++ drop n old → s ≡ sorted a n ++ drop n a → Listed key n s
-keys_listed key n old a s e f = listed key n old (drop n a) s (f ∙ ap (λ (l : List ℕ). sorted l n ++ drop n a) e)
+pub keys_listed : (key : ℕ → ℕ) (n : ℕ) (a s : List ℕ) → a ≡ tab (pack key) n → s ≡ sorted a (length a) → Listed key n s
+keys_listed key n a s e f =
+    let h : length a ≡ n = ap length e ∙ length_tab (pack key) n in
+    listed key n s (f ∙ rw (h, e))
 
 -- ---- equal marks
 

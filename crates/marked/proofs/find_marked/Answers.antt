@@ -1,90 +1,36 @@
 -- r starts the run that p stands in (`Run`), and every item passed has its answer at its own place.
-use mathlib.Core.Path.{◌≡◌, refl}
 use mathlib.Core.Logic.{inl, inr}
-use Prim.Native.Nat.{◌-◌, ◌<◌}
+use Prim.Native.Nat.{◌<◌}
 use native.Mathlib.Omega.{arith}
-use lib.ListN.{get_or, length-set}
+use lib.ListN.{length, get_or}
 use Rattle.meaning.specs.Level.{first}
 use Rattle.marked.specs.Lowest.{same_marks}
-use Rattle.marked.proofs.Laws.{run_none, run_next, store_next, all_met, item_small, led_marks}
+use Rattle.marked.proofs.Laws.{run_next, store_next, all_met, item_small, led_marks}
 use Rattle.marked.proofs.find_marked.Goals as goal
 use Rattle.marked.proofs.find_marked.Goals.{then-s-p, else-s-p}
-
-pub loop-p-init : goal.loop-p-init
-loop-p-init c = (omega arith, refl, run_none c.args.s.now, λ q h. absurd (omega arith))
-
-pub offset_bounds-s-p : goal.offset_bounds-s-p
-offset_bounds-s-p c = omega arith
-
-pub bounds-s-p : goal.bounds-s-p
-bounds-s-p c = omega arith
-
-pub offset_bounds-s-r : goal.offset_bounds-s-r
-offset_bounds-s-r c = omega (arith, c.loop-p.invariant.2.start)
-
-pub bounds-s-r : goal.bounds-s-r
-bounds-s-r c = omega (arith, c.loop-p.invariant.2.start)
-
-pub offset_bounds-s-p-in-loop-p : goal.offset_bounds-s-p-in-loop-p
-offset_bounds-s-p-in-loop-p c = omega arith
-
-pub bounds-s-p-in-loop-p : goal.bounds-s-p-in-loop-p
-bounds-s-p-in-loop-p c = omega arith
-
-pub offset_bounds-s-r-in-loop-p : goal.offset_bounds-s-r-in-loop-p
-offset_bounds-s-r-in-loop-p c =
-    let a = c.args in
-    let l = c.loop-p in
-    let k : l.p < a.n = omega arith in
-    let t =
-    run_next a.s.now a.n l.r l.p c.if-s-p.r l.invariant.2 k (λ q m. c.requires.2.up q l.p m k)
-    (elim c.if-s-p.branch [ then-s-p w ↦ inl (w.if-s-p.true, w.r-is) | else-s-p w ↦ inr (w.if-s-p.false, w.r-is) ]) in
-    omega (arith, t.1)
-
-pub bounds-s-r-in-loop-p : goal.bounds-s-r-in-loop-p
-bounds-s-r-in-loop-p c =
-    let a = c.args in
-    let l = c.loop-p in
-    let k : l.p < a.n = omega arith in
-    let t =
-    run_next a.s.now a.n l.r l.p c.if-s-p.r l.invariant.2 k (λ q m. c.requires.2.up q l.p m k)
-    (elim c.if-s-p.branch [ then-s-p w ↦ inl (w.if-s-p.true, w.r-is) | else-s-p w ↦ inr (w.if-s-p.false, w.r-is) ]) in
-    omega (arith, t.1)
-
-pub overflow_cast-firsts : goal.overflow_cast-firsts
-overflow_cast-firsts c = omega arith
-
-pub offset_bounds-firsts-x : goal.offset_bounds-firsts-x
-offset_bounds-firsts-x c = omega arith
 
 pub bounds-firsts-x : goal.bounds-firsts-x
 bounds-firsts-x c =
     let a = c.args in
     let l = c.loop-p in
-    omega (arith, item_small (λ x. get_or a.marks.now x 0) a.n a.s.now c.requires.0 c.requires.2 l.p (omega arith))
+    omega (arith, item_small (λ x. get_or a.marks.now x 0) (length a.marks.now) a.s.now c.requires.few c.requires.listed l.p (omega arith))
 
 pub loop-p-preserved : goal.loop-p-preserved
 loop-p-preserved c =
     let a = c.args in
     let l = c.loop-p in
-    let k : l.p < a.n = omega arith in
+    let k : l.p < length a.marks.now = omega arith in
     let t =
-    run_next a.s.now a.n l.r l.p c.if-s-p.r l.invariant.2 k (λ q m. c.requires.2.up q l.p m k)
+    run_next a.s.now (length a.marks.now) l.r l.p c.if-s-p.r l.invariant.0 k (λ q m. c.requires.listed.up q l.p m k)
     (elim c.if-s-p.branch [ then-s-p w ↦ inl (w.if-s-p.true, w.r-is) | else-s-p w ↦ inr (w.if-s-p.false, w.r-is) ]) in
-    let small = item_small (λ x. get_or a.marks.now x 0) a.n a.s.now c.requires.0 c.requires.2 l.p k in (
-      omega arith,
-      simp length-set l.invariant.1,
+    let small = item_small (λ x. get_or a.marks.now x 0) (length a.marks.now) a.s.now c.requires.few c.requires.listed l.p k in (
       t.0,
-      store_next (first (same_marks a.marks.now)) a.s.now l.firsts l.p _ l.invariant.3 (omega arith)
-          (led_marks a.marks.now a.n a.s.now c.if-s-p.r l.p c.requires.0 c.requires.2 k t.0 t.1 t.2),
+      store_next (first (same_marks a.marks.now)) a.s.now l.firsts l.p _ l.invariant.1 (omega arith)
+          (led_marks a.marks.now (length a.marks.now) a.s.now c.if-s-p.r l.p c.requires.few c.requires.listed k t.0 t.1 t.2),
     )
-
-pub shape_of-firsts : goal.shape_of-firsts
-shape_of-firsts c = omega arith
 
 pub returns : goal.returns
 returns c =
     let a = c.args in
     let l = c.loop-p in
-    let e : l.p ≡ a.n = omega arith in
-    all_met (λ x. get_or a.marks.now x 0) (first (same_marks a.marks.now)) a.n a.s.now l.firsts c.requires.0 c.requires.2 (λ q h. l.invariant.3 q (omega arith))
+    all_met (λ x. get_or a.marks.now x 0) (first (same_marks a.marks.now)) (length a.marks.now) a.s.now l.firsts c.requires.few c.requires.listed (λ q h. l.invariant.1 q (omega arith))
