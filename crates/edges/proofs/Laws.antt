@@ -9,7 +9,7 @@ use native.Mathlib.Numerals.{add-one}
 use borrow.Author.Tests.{le-leb, lt-leb, leb-true, ltb-true, ltb-false}
 use lib.Dec.{leb, ltb}
 use lib.ListN.{length, get_or, set, take, drop, length-append, drop_of_length-le}
-use lib.Seq.{sets, sets-eq, length-sets, take-suc, drop-cons, take_at, length-take-le, get_or-take}
+use lib.Seq.{sets, sets-eq, length-sets, take-suc, drop-cons, take_at, length-take-le}
 use Rattle.meaning.specs.Count.{tab, any, ascends, Every}
 use Rattle.meaning.specs.Register.{Link, Register, items, no_link, link_of, LinkFine, Fine}
 use Rattle.meaning.specs.Level.{class_count}
@@ -27,7 +27,7 @@ use Rattle.meaning.specs.RegisterFile.{register_in}
 use Rattle.promise.proofs.Promise.{fault_accepted}
 use Rattle.register.specs.Told.{OfRegister}
 use Rattle.order.specs.Sorted.{into, sorted, Ascends}
-use Rattle.order.proofs.Laws.{length_sorted, sorted_ascends}
+use Rattle.order.proofs.Laws.{sorted_ascends}
 use Rattle.order.proofs.Front.{tab_read}
 use Rattle.summary.specs.Numbers.{edge_numbers}
 use Rattle.edges.specs.Keys.{class_links, key_of, unkeyed, distinct}
@@ -144,11 +144,10 @@ key_tells : (a b c : ℕ) → b < 16 → c < 1024 → let v = (a * 16 + b) * 102
 key_tells a b c h k = (omega arith, omega arith, omega arith)
 
 -- what the class list says of an item
-pub class_read : (classes : List ℕ) (n x v : ℕ) → n ≤ length classes → class_count (take n classes) ≤ 1024 → x < n → v ≡ x →
-    (get_or classes v 0 ≡ by (take n classes) x) × (get_or classes v 0 < 1024)
-class_read classes n x v h few u e =
-    let a = get_d_below (take n classes) x (omega (arith, length-take-le n classes h)) in
-    let b : get_or classes v 0 ≡ by (take n classes) x = rw e (sym (get_or-take n classes x 0 u)) in
+pub class_read : (classes : List ℕ) (x v : ℕ) → class_count classes ≤ 1024 → x < length classes → v ≡ x → (get_or classes v 0 ≡ by classes x) × (get_or classes v 0 < 1024)
+class_read classes x v few u e =
+    let a = get_d_below classes x u in
+    let b : get_or classes v 0 ≡ by classes x = ap (λ (i : ℕ). get_or classes i 0) e in
     (b, omega arith)
 
 -- the key of a link, of its parts as they are read
@@ -297,27 +296,30 @@ module _ (R : Register) (fine : Fine R) (cs : List ℕ) (long : length cs ≡ it
         (rising_ascends link_key 0 4398046511104 _ (distinct_rises 0 0 (sorted a m) (λ v h. omega arith) sorted_small (omega arith))) links_ascend
         (λ k l k'. sorted_joins k l k' ∙ sym (links_join k l k'))
 
--- ---- the same of a file: a is the keys and what is behind them, s is a with its keys in order
+-- ---- the same of a file: a is the keys, s is a in order
 
-module _ (b classes : List ℕ) (n m : ℕ) (r : OfRegister b n m) (h : n ≤ length classes) (few : class_count (take n classes) ≤ 1024) (a s rest : List ℕ)
-    (keys : a ≡ tab (λ k. key_of (take n classes) (link_of (register_in b) k)) m ++ rest) (in_order : s ≡ sorted a m ++ drop m a) where
+module _ (b classes : List ℕ) (n m : ℕ) (r : OfRegister b n m) (h : length classes ≡ n) (few : class_count classes ≤ 1024) (a s : List ℕ)
+    (keys : a ≡ tab (λ k. key_of classes (link_of (register_in b) k)) m) (in_order : s ≡ sorted a (length a)) where
   fine : Fine (register_in b)
   fine = accepted_fine (register_in b) (fault_accepted b r.fine)
 
-  long : length (take n classes) ≡ items (register_in b)
-  long = length-take-le n classes h ∙ r.items_are
+  long : length classes ≡ items (register_in b)
+  long = h ∙ r.items_are
 
-  taken : take m s ≡ sorted a m
-  taken = ap (take m) in_order ∙ take_at (sorted a m) (drop m a) m (length_sorted a m)
+  keys' : a ≡ tab (λ k. key_of classes (link_of (register_in b) k)) m ++ []
+  keys' = keys ∙ sym (append-nil _)
 
-  pub keys_small : Every (λ v. v < 16777216) (take m s)
-  keys_small = rw taken (sorted_small (register_in b) fine (take n classes) long few a rest m r.links_are keys)
+  so : s ≡ sorted a m
+  so = in_order ∙ ap (sorted a) (ap length keys ∙ length_tab _ m)
 
-  made : distinct 0 (take m s) ≡ class_links (register_in b) (take n classes)
-  made = ap (distinct 0) taken ∙ class_links_law (register_in b) fine (take n classes) long few a rest m r.links_are keys
+  pub keys_small : Every (λ v. v < 16777216) s
+  keys_small = rw so (sorted_small (register_in b) fine classes long few a [] m r.links_are keys')
 
-  pub made_all : (x : ℕ) (out : List ℕ) → (x ≡ length (distinct 0 (take m s))) × (take (3 * x) out ≡ pack edge_numbers (distinct 0 (take m s))) →
-      (x ≡ length (class_links (register_in b) (take n classes))) × (take (3 * x) out ≡ pack edge_numbers (class_links (register_in b) (take n classes)))
+  made : distinct 0 s ≡ class_links (register_in b) classes
+  made = ap (distinct 0) so ∙ class_links_law (register_in b) fine classes long few a [] m r.links_are keys'
+
+  pub made_all : (x : ℕ) (out : List ℕ) → (x ≡ length (distinct 0 s)) × (take (3 * x) out ≡ pack edge_numbers (distinct 0 s)) →
+      (x ≡ length (class_links (register_in b) classes)) × (take (3 * x) out ≡ pack edge_numbers (class_links (register_in b) classes))
   made_all x out w = (w.0 ∙ ap length made, w.1 ∙ ap (pack edge_numbers) made)
 
 -- ---- one turn of the loop that writes
@@ -327,11 +329,6 @@ put_three d at x y z = let e : at + 2 ≡ suc (suc at) = omega arith in rw (e, a
 
 pub put_long : (d out' : List ℕ) (r v : ℕ) → out' ≡ sets d (3 * r) (edge_numbers (unkeyed v)) → length out' ≡ length d
 put_long d out' r v e = ap length e ∙ length-sets d (3 * r) (edge_numbers (unkeyed v))
-
--- a key as it is read
-pub key_below : (keys : List ℕ) (m i : ℕ) → m ≤ length keys → i < m → Every (λ v. v < 16777216) (take m keys) → get_or keys i 0 < 16777216
-key_below keys m i h u small =
-    omega (arith, get_or-take m keys i 0 u, every_at (λ v. v < 16777216) 0 (take m keys) small i (omega (arith, length-take-le m keys h)))
 
 -- after i keys of s: r class links are written, and those still to come make them all
 pub record Written (s out : List ℕ) (i least r : ℕ) : Type 0 where

@@ -3,7 +3,7 @@
 // links. Leans on radix for the order and on register for the links.
 #![tactic(auto)]
 
-ghost use Rattle.std.specs.Prelude.{◌≡◌, ◌++◌, ◌+◌, ◌*◌, ◌≤◌, ◌<◌, length, drop, take};
+ghost use Rattle.std.specs.Prelude.{◌≡◌, ◌+◌, ◌*◌, ◌≤◌, ◌<◌, length, take};
 ghost use Rattle.std.proofs.lemmas.List.Edits.{sets};
 ghost use Rattle.meaning.specs.Count.{tab, Every};
 ghost use Rattle.meaning.specs.Register.{link_of};
@@ -11,68 +11,76 @@ ghost use Rattle.meaning.specs.Level.{class_count};
 ghost use Rattle.meaning.specs.Condense.{by};
 ghost use Rattle.meaning.specs.Bytes.{pack};
 ghost use Rattle.meaning.specs.RegisterFile.{register_in};
-ghost use Rattle.register.specs.Told.{OfRegister, OfLink};
 ghost use Rattle.summary.specs.Numbers.{edge_numbers};
 ghost use Rattle.edges.specs.Keys.{class_links as class_links_word, key_of as key_of_word, unkeyed, distinct};
 
 use names::{Class, Item};
+use register::Register;
 
-// The class links of n items of the given classes, three numbers for each, and how many they are.
-pub fn class_links(reg: &[u8], n: usize, m: usize, classes: &[u16], out: &mut [u16]) -> usize
-    requires { OfRegister reg.now n m × (n ≤ length classes.now) × (class_count (take n classes.now) ≤ 1024) × (length out.old ≡ 6144) }
-    ensures { (result ≡ length (class_links_word (register_in reg.now) (take n classes.now)))
-        × (take (3 * result) out.new ≡ pack edge_numbers (class_links_word (register_in reg.now) (take n classes.now))) }
+// The class links of the items of the given classes, three numbers for each, and how many they are.
+pub fn class_links(reg: &Register, classes: &[u16], out: &mut [u16]) -> usize
+    requires { (length classes.now ≡ reg.now.items) × (class_count classes.now ≤ 1024) × (length out.old ≡ 6144) }
+    ensures { (result ≡ length (class_links_word (register_in reg.now.bytes.now) classes.now))
+        × (take (3 * result) out.new ≡ pack edge_numbers (class_links_word (register_in reg.now.bytes.now) classes.now)) }
 {
     let mut keys = [0u64; 2048];
-    put_keys(reg, n, m, classes, &mut keys);
+    put_class_links(reg, classes, &mut keys[..reg.links], out)
+}
+
+// The same, with room lent for a key of each link.
+fn put_class_links(reg: &Register, classes: &[u16], keys: &mut [u64], out: &mut [u16]) -> usize
+    requires { (length classes.now ≡ reg.now.items) × (class_count classes.now ≤ 1024) × (length keys.old ≡ reg.now.links)
+        × (length out.old ≡ 6144) }
+    ensures { (result ≡ length (class_links_word (register_in reg.now.bytes.now) classes.now))
+        × (take (3 * result) out.new ≡ pack edge_numbers (class_links_word (register_in reg.now.bytes.now) classes.now)) }
+{
     let mut room = [0u64; 2048];
-    radix::sort(&mut keys, m, &mut room);
-    put_links(&keys, m, out)
+    put_keys(reg, classes, keys);
+    radix::sort(keys, &mut room);
+    put_links(keys, out)
 }
 
 // The key of each link, in the order of the links.
-fn put_keys(reg: &[u8], n: usize, m: usize, classes: &[u16], keys: &mut [u64])
-    requires { OfRegister reg.now n m × (n ≤ length classes.now) × (class_count (take n classes.now) ≤ 1024) × (m ≤ length keys.old) }
-    ensures { keys.new ≡ tab (λ k. key_of_word (take n classes.now) (link_of (register_in reg.now) k)) m
-        ++ drop m keys.old }
+fn put_keys(reg: &Register, classes: &[u16], keys: &mut [u64])
+    requires { (length classes.now ≡ reg.now.items) × (class_count classes.now ≤ 1024) × (length keys.old ≡ reg.now.links) }
+    ensures { keys.new ≡ tab (λ k. key_of_word classes.now (link_of (register_in reg.now.bytes.now) k)) reg.now.links }
 {
-    for k in 0..m {
-        keys[k] = key_of(reg, n, k, classes);
+    for (k, key) in keys.iter_mut().enumerate() {
+        *key = key_of(reg, k, classes);
     }
 }
 
 // "source class, label, target class" of link k as one number: labels are below 16, classes below 1,024.
-fn key_of(reg: &[u8], n: usize, k: usize, classes: &[u16]) -> u64
-    requires { OfLink reg.now n k × (n ≤ length classes.now) × (class_count (take n classes.now) ≤ 1024) }
-    ensures { result ≡ key_of_word (take n classes.now) (link_of (register_in reg.now) k) }
+fn key_of(reg: &Register, k: usize, classes: &[u16]) -> u64
+    requires { (k < reg.now.links) × (length classes.now ≡ reg.now.items) × (class_count classes.now ≤ 1024) }
+    ensures { result ≡ key_of_word classes.now (link_of (register_in reg.now.bytes.now) k) }
 {
-    let source = class_at(classes, n, register::source(reg, n, k)).index() as u64;
-    let label = register::label(reg, n, k) as u64;
-    let target = class_at(classes, n, register::target(reg, n, k)).index() as u64;
+    let source = class_at(classes, reg.source(k)).index() as u64;
+    let label = reg.label(k) as u64;
+    let target = class_at(classes, reg.target(k)).index() as u64;
     (source * 16 + label) * 1024 + target
 }
 
 // The class of item x.
-fn class_at(classes: &[u16], n: usize, x: Item) -> Class
-    requires { (n ≤ length classes.now) × (class_count (take n classes.now) ≤ 1024) × (x.0 < n) }
-    ensures { (result.0 ≡ by (take n classes.now) x.0) × (result.0 < 1024) }
+fn class_at(classes: &[u16], x: Item) -> Class
+    requires { (class_count classes.now ≤ 1024) × (x.0 < length classes.now) }
+    ensures { (result.0 ≡ by classes.now x.0) × (result.0 < 1024) }
 {
     Class(classes[x.index()])
 }
 
 // The class link of every key that differs from those before it: keys are in order, so it is above the last one written.
-fn put_links(keys: &[u64], m: usize, out: &mut [u16]) -> usize
-    requires { (m ≤ length keys.now) × (m ≤ 2048) × (length out.old ≡ 6144) × Every (λ v. v < 16777216) (take m keys.now) }
-    ensures { (result ≡ length (distinct 0 (take m keys.now)))
-        × (take (3 * result) out.new ≡ pack edge_numbers (distinct 0 (take m keys.now))) }
+fn put_links(keys: &[u64], out: &mut [u16]) -> usize
+    requires { (length keys.now ≤ 2048) × (length out.old ≡ 6144) × Every (λ v. v < 16777216) keys.now }
+    ensures { (result ≡ length (distinct 0 keys.now))
+        × (take (3 * result) out.new ≡ pack edge_numbers (distinct 0 keys.now)) }
 {
     let mut least: u64 = 0;
     let mut r = 0;
-    for i in 0..m {
-        let v = keys[i];
-        if least <= v {
-            put_link(out, r, v);
-            least = v + 1;
+    for v in keys {
+        if least <= *v {
+            put_link(out, r, *v);
+            least = *v + 1;
             r += 1;
         }
     }

@@ -3,5 +3,4 @@ use Rattle.edges.proofs.Laws.{class_read}
 use Rattle.edges.proofs.class_at.Goals as goal
 
 pub returns : goal.returns
-returns c =
-    class_read c.args.classes.now c.args.n c.args.x.0 _ c.requires.0 c.requires.1 c.requires.2 c.index.ensures
+returns c = class_read c.args.classes.now c.args.x.0 _ c.requires.0 c.requires.1 c.index.ensures
