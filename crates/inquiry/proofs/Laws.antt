@@ -9,6 +9,7 @@ use native.Mathlib.Omega.{arith}
 use lib.Dec.{leb}
 use lib.IntN.{ℤ}
 use lib.ListN.{length}
+use Rattle.std.proofs.Common.{Ok, Err}
 use Rattle.meaning.specs.Register.{Register, items, marks_of, Fine, neighbours}
 use Rattle.meaning.specs.declared.Direction.{Direction}
 use Rattle.meaning.specs.declared.Kind.TheVariants.{True, Literal, Not, AtLeast}
@@ -20,24 +21,14 @@ use Rattle.promise.proofs.Promise.{fault_accepted}
 use Rattle.meaning.specs.RegisterFile.{register_in, fault}
 use Rattle.meaning.specs.QuestionFile.{question}
 use Rattle.meaning.specs.declared.Refusal.{Refusal}
-use Rattle.entry.specs.declared.Reading.{Reading}
-use Rattle.entry.specs.declared.Reading.TheVariants.{Malformed}
-use Rattle.entry.specs.Entries.{kind_of, entry_at}
+use Rattle.entry.specs.Entries.{entry_at}
 use Rattle.entry.proofs.Laws.{clash, within_question}
-use Rattle.question.specs.declared.Spanned.{Spanned}
-use Rattle.question.specs.declared.Spanned.TheVariants.{Tree, Refused}
+use Rattle.question.specs.declared.Tree.{Tree}
 use Rattle.question.specs.Read.{Parsed, Spans}
 use Rattle.question.proofs.Laws.{forward, ends, parsed_true, parsed_literal, parsed_not, parsed_and, parsed_or, parsed_least, parsed_one, parsed_question, question_length, everywhere, every_entry}
 use Rattle.table.specs.Row.{row, Writes, paired}
-use Rattle.question.specs.declared.Asked.TheVariants.{Said}
-use Rattle.descent.specs.declared.Descended.{Descended}
-use Rattle.descent.specs.declared.Descended.TheVariants as descended
 use Rattle.descent.specs.Around.{Tells}
 use Rattle.inquiry.specs.Known.{Whole, Known, pair_kind, asked}
-
--- what is written is what it is equal to
-pub writes_same : (t u : List Bool) (n j : ℕ) (p q : ℕ → Bool) → ((x : ℕ) → x < n → p x ≡ q x) → Writes t u n j p → Writes t u n j q
-writes_same t u n j p q e w = record { says = λ x h. w.says x h ∙ e x h; kept = w.kept }
 
 module _ (R : Register) (q : List ℕ) (n j : ℕ) (t u : List Bool) (known : Known R q n t (j + 1)) where
   -- a row that is written, and those behind it that stay
@@ -106,10 +97,9 @@ unfolding asked
 known_all R q n t x w h k = k.knows 0 (omega arith) w.tree (length q / 4) (parsed_question q w.tree w.reads) x h ∙ sym (rw w.reads)
 
 -- what is said of the tree at entry 0 is said of the question
-pub told_so : (R : Register) (q : List ℕ) (x : ℕ) → Whole q → (r : Descended) → Tells q 0 (λ t. holds R t x) r → (b : Bool) → r ≡ descended.Said b → Said b ≡ Said (asked R (question q) x)
+pub told_so : (R : Register) (q : List ℕ) (x : ℕ) → Whole q → (b : Bool) → Tells q 0 (λ t. holds R t x) (Ok b) → b ≡ asked R (question q) x
 unfolding asked
-told_so R q x w r tells b e =
-    ap (λ (b : Bool). Said b) (tells w.tree (length q / 4) (parsed_question q w.tree w.reads) b e ∙ sym (ap (λ (o : Option Question). asked R o x) w.reads))
+told_so R q x w b says = says w.tree (length q / 4) (parsed_question q w.tree w.reads) ∙ sym (ap (λ (o : Option Question). asked R o x) w.reads)
 
 -- of a well-formed question: at most 64 entries; each reads; the operands of an entry of two stand, and end within it
 module _ (q : List ℕ) (w : Whole q) where
@@ -131,8 +121,8 @@ module _ (q : List ℕ) (w : Whole q) where
       (o.0, o.2, o.4, forward o.4, omega (arith, forward o.5, ends o.5))
 
   -- no entry of it is malformed
-  pub entry_stands : (j : ℕ) → j < length q / 4 → (s : Reading) → kind_of s ≡ entry_at q j → s ≡ Malformed → ⊥
-  entry_stands j h s e f = let k = every_entry q w.tree w.reads j h in clash (sym (ap kind_of f) ∙ e ∙ k.1)
+  pub entry_stands : (j : ℕ) → j < length q / 4 → none ≡ entry_at q j → ⊥
+  entry_stands j h e = let k = every_entry q w.tree w.reads j h in clash (e ∙ k.1)
 
   -- the operand of an entry of one stands right behind it
   pub not_below : (j : ℕ) → entry_at q j ≡ some Not → j + 1 < 64
@@ -148,21 +138,17 @@ module _ (q : List ℕ) (w : Whole q) where
       omega (arith, forward o.2, ends o.2, few_entries)
 
   -- an entry of two: its first operand stands, so it is spanned and not refused, and the span ends before the last entry
-  module _ (any : Bool) (j : ℕ) (at : entry_at q j ≡ some (pair_kind any)) (s : Spanned) (spans : Spans q (j + 1) s) where
-    pub first_stands : (r : Refusal) → s ≡ Refused r → ⊥
+  module _ (any : Bool) (j : ℕ) (at : entry_at q j ≡ some (pair_kind any)) where
+    pub first_stands : (r : Refusal) → Spans q (j + 1) (Err r) → ⊥
     unfolding Spans
-    first_stands r e =
-        let o = operands_at any j (within_question q j (pair_kind any) at) at in
-        let none : Spans q (j + 1) (Refused r) = rw e at spans in
-        none.1 o.0 o.1 o.2
+    first_stands r spans = let o = operands_at any j (within_question q j (pair_kind any) at) at in spans.1 o.0 o.1 o.2
 
-    pub first_spanned : (d m k : ℕ) → s ≡ Tree d m k → (p : Question) × Parsed q (j + 1) p k × (j + 1 < k) × (k < 64)
+    pub first_spanned : (s : Tree) → Spans q (j + 1) (Ok s) → (p : Question) × Parsed q (j + 1) p s.next × (j + 1 < s.next) × (s.next < 64)
     unfolding Spans
-    first_spanned d m k e =
+    first_spanned s spans =
         let o = operands_at any j (within_question q j (pair_kind any) at) at in
-        let some-tree : Spans q (j + 1) (Tree d m k) = rw e at spans in
-        let one = parsed_one o.2 some-tree.1 in
-        (some-tree.0, some-tree.1, forward some-tree.1, omega (arith, o.4, one.1, few_entries))
+        let one = parsed_one o.2 spans.1 in
+        (spans.0, spans.1, forward spans.1, omega (arith, o.4, one.1, few_entries))
 
 -- the links of an accepted register are in range
 pub register_fine : (b : List ℕ) → fault b ≡ 0 → Fine (register_in b)

@@ -12,75 +12,77 @@ ghost use Rattle.meaning.specs.QuestionFile.{question};
 ghost use Rattle.entry.specs.Entries.{entry_at};
 ghost use Rattle.table.specs.Row.{Room, row, Writes};
 ghost use Rattle.register.specs.Told.{OfRegister};
-ghost use Rattle.inquiry.specs.Known.{Whole, Known, Fills, pair_kind, asked, Said};
+ghost use Rattle.inquiry.specs.Known.{Whole, Known, Fills, pair_kind, asked};
 
-use descent::Descended;
-use entry::Reading;
 use meaning::{Direction, Kind, Refusal};
 use names::Item;
-use question::{Asked, Filled, Spanned};
 
 // "On a register, neighbours are counted exactly and any depth is allowed." What a descent leaves unsaid, for want of steps, is asked of all
 // items.
-pub fn ask(reg: &[u8], n: usize, m: usize, q: &[u8], depth: usize, x: Item) -> Asked
+pub fn ask(reg: &[u8], n: usize, m: usize, q: &[u8], depth: usize, x: Item) -> Result<bool, Refusal>
     requires { OfRegister reg.now n m × Whole q.now × (x.0 < n) }
-    ensures { Said result (asked (register_in reg.now) (question q.now) x.0) }
+    ensures { result ≡ Ok (asked (register_in reg.now) (question q.now) x.0) }
 {
-    let Descended::Said(yes) = descent::ask(reg, n, m, q, depth, x) else {
-        return ask_all(reg, n, m, q, x);
-    };
-    Asked::Said(yes)
+    if let Ok(yes) = descent::ask(reg, n, m, q, depth, x) {
+        return Ok(yes);
+    }
+    ask_all(reg, n, m, q, x)
 }
 
 // Of all items, with no bound but that of the question's length.
-fn ask_all(reg: &[u8], n: usize, m: usize, q: &[u8], x: Item) -> Asked
+fn ask_all(reg: &[u8], n: usize, m: usize, q: &[u8], x: Item) -> Result<bool, Refusal>
     requires { OfRegister reg.now n m × Whole q.now × (x.0 < n) }
-    ensures { Said result (asked (register_in reg.now) (question q.now) x.0) }
+    ensures { result ≡ Ok (asked (register_in reg.now) (question q.now) x.0) }
 {
     let mut table = [false; 65536];
-    let Filled::Done = fill(&mut table, reg, n, m, q) else {
-        return Asked::Refused(Refusal::Question);
+    let Ok(()) = fill(&mut table, reg, n, m, q) else {
+        return Err(Refusal::Question);
     };
     let at = x.index();
-    Asked::Said(table[at])
+    Ok(table[at])
 }
 
 // The rows of all entries, from the last to the first.
-fn fill(table: &mut [bool], reg: &[u8], n: usize, m: usize, q: &[u8]) -> Filled
+fn fill(table: &mut [bool], reg: &[u8], n: usize, m: usize, q: &[u8]) -> Result<(), Refusal>
     requires { (length table.old ≡ 65536) × OfRegister reg.now n m × Whole q.now }
     ensures { Fills result (register_in reg.now) q.now n table.new 0 }
 {
-    let mut j = q.len() / 4;
-    while 0 < j {
-        j -= 1;
-        let Filled::Done = put_entry(table, reg, n, m, q, j) else {
-            return Filled::Refused(Refusal::Question);
+    for j in (0..q.len() / 4).rev() {
+        let Ok(()) = put_entry(table, reg, n, m, q, j) else {
+            return Err(Refusal::Question);
         };
     }
-    Filled::Done
+    Ok(())
 }
 
 // Row j, where the rows behind it stand.
-fn put_entry(table: &mut [bool], reg: &[u8], n: usize, m: usize, q: &[u8], j: usize) -> Filled
+fn put_entry(
+    table: &mut [bool],
+    reg: &[u8],
+    n: usize,
+    m: usize,
+    q: &[u8],
+    j: usize,
+) -> Result<(), Refusal>
     requires { Room table.old n j × OfRegister reg.now n m × Whole q.now × (j < length q.now / 4)
         × Known (register_in reg.now) q.now n table.old (j + 1) }
     ensures { Fills result (register_in reg.now) q.now n table.new j }
 {
-    let Reading::Entry(kind) = entry::read(q, j) else {
-        return Filled::Refused(Refusal::Question);
+    let Some(kind) = entry::read(q, j) else {
+        return Err(Refusal::Question);
     };
     match kind {
         Kind::True => {
             table::put_true(table, n, j);
-            Filled::Done
+            Ok(())
         }
         Kind::Literal(literal) => {
             put_literal(table, reg, n, j, literal);
-            Filled::Done
+            Ok(())
         }
         Kind::Not => {
             table::put_not(table, n, j);
-            Filled::Done
+            Ok(())
         }
         Kind::And => put_operands(table, reg, n, q, j, false),
         Kind::Or => put_operands(table, reg, n, q, j, true),
@@ -90,27 +92,29 @@ fn put_entry(table: &mut [bool], reg: &[u8], n: usize, m: usize, q: &[u8], j: us
             threshold,
         } => {
             put_at_least(table, reg, n, m, j, direction, label, threshold);
-            Filled::Done
+            Ok(())
         }
     }
 }
 
 // "and, or, two operands": the first stands at entry j + 1, the second where the first ends.
-fn put_operands(table: &mut [bool], reg: &[u8], n: usize, q: &[u8], j: usize, any: bool) -> Filled
+fn put_operands(
+    table: &mut [bool],
+    reg: &[u8],
+    n: usize,
+    q: &[u8],
+    j: usize,
+    any: bool,
+) -> Result<(), Refusal>
     requires { Room table.old n j × Whole q.now × (entry_at q.now j ≡ some (pair_kind any))
         × Known (register_in reg.now) q.now n table.old (j + 1) }
     ensures { Fills result (register_in reg.now) q.now n table.new j }
 {
-    let Spanned::Tree {
-        depth: _,
-        threshold: _,
-        next,
-    } = question::span(q, j + 1)
-    else {
-        return Filled::Refused(Refusal::Question);
+    let Ok(operand) = question::span(q, j + 1) else {
+        return Err(Refusal::Question);
     };
-    table::put_pair(table, n, j, next, any);
-    Filled::Done
+    table::put_pair(table, n, j, operand.next, any);
+    Ok(())
 }
 
 // "k means mark k is on the item, −k that it is absent".
@@ -118,11 +122,9 @@ fn put_literal(table: &mut [bool], reg: &[u8], n: usize, j: usize, literal: i8)
     requires { Room table.old n j × (fault reg.now ≡ 0) × (n ≡ items (register_in reg.now)) × (1 ≤ nat_abs literal) × (nat_abs literal ≤ 32) }
     ensures { Writes table.old table.new n j (λ x. shows (marks_of (register_in reg.now) x) literal) }
 {
-    let mut x = 0;
-    while x < n {
+    for x in 0..n {
         let marks = register::marks(reg, Item(x as u16));
         table[1024 * j + x] = entry::shows(marks, literal);
-        x += 1;
     }
 }
 

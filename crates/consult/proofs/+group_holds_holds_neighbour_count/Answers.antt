@@ -1,6 +1,5 @@
 -- `holds` and `neighbour_count` call each other, by way of `group_holds`: entries left, then rows left, fall. The first is the cycle's
 -- measure, the second the loop's. Each way out is a law of Laws.
--- the arguments are q and at, and more
 use mathlib.Core.Path.{refl, sym, ap, subst, ◌∙◌}
 use mathlib.Core.Option.{some}
 use Prim.Native.Nat.{ℕ, ◌-◌}

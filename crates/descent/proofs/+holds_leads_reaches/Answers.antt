@@ -1,6 +1,5 @@
 -- `holds` asks `reaches`, which asks `leads` link by link, which asks `holds` at the neighbour: entries left fall, and in the loop the places
 -- left. Each way out is a law of Laws.
--- the arguments are q and at, and more
 use mathlib.Core.Path.{refl, sym, ap, ◌∙◌}
 use mathlib.Core.Option.{some}
 use Prim.Native.Nat.{ℕ}
