@@ -1,9 +1,10 @@
 -- The numbers below x that pass, as a loop gathers them. Leans on theory's CountLaws.
-use mathlib.Core.Path.{◌≡◌, refl, sym, ap, ◌∙◌}
-use mathlib.Core.Bool.{Bool, true, false, cond}
+use mathlib.Core.Path.{◌≡◌, ap}
+use mathlib.Core.Bool.{Bool, true, false}
 use mathlib.Core.List.{List, [], ◌∷◌, ◌++◌, append-nil}
 use Prim.Native.Nat.{ℕ, zero, suc, ◌+◌, ◌≤◌, ◌<◌}
 use native.Mathlib.Omega.{arith}
+use native.Mathlib.Numerals.{add-one}
 use borrow.Author.Tests.{ltb-true}
 use lib.Dec.{ltb}
 use lib.ListN.{length, take, set, length-append}
@@ -16,14 +17,6 @@ use Rattle.theory.proofs.ShapeLaws.{well_parts, number_parts}
 use Rattle.header.proofs.File.{well_file, sized_file}
 
 module _ (p : ℕ → Bool) where
-  pub none_yet : those p 0 ≡ []
-  unfolding those
-  none_yet = refl
-
-  pub one_more : (x : ℕ) → those p (x + 1) ≡ those p x ++ cond (p x) (x ∷ []) []
-  unfolding those
-  one_more x = let z : x + 1 ≡ suc x = omega arith in rw z
-
   pub at_most : (x : ℕ) → length (those p x) ≤ x
   unfolding those
   at_most zero = omega arith
@@ -32,14 +25,17 @@ module _ (p : ℕ → Bool) where
       (λ e. rw e (omega (arith, at_most x, length-append (those p x) (x ∷ []))))
       (λ e. rw e (omega (arith, at_most x, length-append (those p x) [])))
 
--- ---- one item put, or none
+  -- the next one: put where the last one ended, or passed over
+  module _ (x r : ℕ) (out : List ℕ) (g : r ≡ length (those p x)) (h : take r out ≡ those p x) where
+    pub one_more : r < length out → p x ≡ true → (r + 1 ≡ length (those p (x + 1))) × (take (r + 1) (set out r x) ≡ those p (x + 1))
+    unfolding those
+    one_more l e =
+        let z : those p (x + 1) ≡ those p x ++ (x ∷ []) = rw (add-one, e) in
+        (omega (arith, ap (λ (s : List ℕ). length s) z, length-append (those p x) (x ∷ [])), rw (z, add-one, take-suc-set out r x l, h))
 
-pub put_named : (out : List ℕ) (r x : ℕ) (t : Bool) → r < length out → t ≡ true →
-    (r + 1 ≡ r + length (cond t (x ∷ []) [])) × (take (r + 1) (set out r x) ≡ take r out ++ cond t (x ∷ []) [])
-put_named out r x t h e = let z : r + 1 ≡ suc r = omega arith in rw e (omega arith, rw z (take-suc-set out r x h))
-
-pub put_none : (out : List ℕ) (r x : ℕ) (t : Bool) → t ≡ false → (r ≡ r + length (cond t (x ∷ []) [])) × (take r out ≡ take r out ++ cond t (x ∷ []) [])
-put_none out r x t e = rw e (omega arith, sym (append-nil (take r out)))
+    pub none_more : p x ≡ false → (r ≡ length (those p (x + 1))) × (take r out ≡ those p (x + 1))
+    unfolding those
+    none_more e = rw (add-one, e, append-nil (those p x)) (g, h)
 
 -- the answer at an item's class, and the classes that items have
 pub mapped : (s : List ℕ) (x : ℕ) → well_formed_file s ≡ true → x < length (summary_in s).map → class_at (summary_in s) x < length (summary_in s).classes
@@ -51,12 +47,3 @@ mapped s x w h =
 
 pub class_low : (s : List ℕ) (x : ℕ) → well_formed_file s ≡ true → x < length (summary_in s).map → class_at (summary_in s) x < 1024
 class_low s x w h = omega (arith, mapped s x w h, (sized_file s w).few_classes)
-
-pub next_named : (p : ℕ → Bool) (out out' : List ℕ) (r r' x v : ℕ) (t : Bool) → t ≡ p x → v ≡ x → r ≡ length (those p x) → take r out ≡ those p x →
-    r' ≡ r + length (cond t (v ∷ []) []) → take r' out' ≡ take r out ++ cond t (v ∷ []) [] →
-    (r' ≡ length (those p (x + 1))) × (take r' out' ≡ those p (x + 1))
-next_named p out out' r r' x v t e w f g h k =
-    let o = one_more p x in
-    let q : cond t (v ∷ []) [] ≡ cond (p x) (x ∷ []) [] = rw (e, w) in
-    let m : those p (x + 1) ≡ take r out ++ cond t (v ∷ []) [] = o ∙ rw (q, g) in
-    (h ∙ ap (λ (n : ℕ). n + length (cond t (v ∷ []) [])) (f ∙ ap length (sym g)) ∙ sym (length-append (take r out) (cond t (v ∷ []) [])) ∙ ap length (sym m), k ∙ sym m)
