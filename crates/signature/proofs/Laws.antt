@@ -1,5 +1,5 @@
 -- Laws of signatures and of their hash. Leans on marked for the walk over sorted items.
-use mathlib.Core.Path.{◌≡◌, refl, sym, ap, ◌∙◌}
+use mathlib.Core.Path.{◌≡◌, refl, sym, ◌∙◌}
 use mathlib.Core.Bool.{true, false, and-false}
 use mathlib.Core.List.{List}
 use Prim.Native.Nat.{ℕ, zero, suc, ◌+◌, ◌-◌, ◌/◌, ◌≤◌, ◌<◌}
@@ -7,7 +7,8 @@ use native.Mathlib.Omega.{arith}
 use native.Mathlib.Numerals.{add-one}
 use borrow.Author.Tests.{eq-eqb, ne_eqb, eqb-true}
 use lib.Dec.{eqb}
-use lib.ListN.{get_or}
+use lib.ListN.{length, get_or, take, drop, length-drop}
+use lib.Seq.{length-take-le, get_or-take, get_or-drop}
 use Rattle.meaning.specs.Count.{all, seek}
 use Rattle.meaning.specs.Level.{first, Equivalence}
 use Rattle.theory.proofs.CountLaws.{and_inv, eqb_refl, all_yes, all_no, all_at}
@@ -78,9 +79,15 @@ module _ (g o r : List ℕ) where
       let e = sig_parts x y h in
       rw (e.0, ← e.1) (hashed_same x y (mix 0 (get_or g y 0)) (size o x) e.2)
 
-pub word_at : (o r : List ℕ) (x j at : ℕ) → at ≡ get_or o x 0 → get_or r (at + j) 0 ≡ word o r x j
-unfolding word
-word_at o r x j at e = ap (λ (n : ℕ). get_or r (n + j) 0) e
+-- the words of x, cut out
+pub cut : (o r : List ℕ) (x : ℕ) → get_or o x 0 ≤ get_or o (x + 1) 0 → get_or o (x + 1) 0 ≤ length r →
+    let ws = take (get_or o (x + 1) 0 - get_or o x 0) (drop (get_or o x 0) r) in (length ws ≡ size o x) × ((j : ℕ) → j < size o x → get_or ws j 0 ≡ word o r x j)
+unfolding size word
+cut o r x h g =
+    let n = get_or o (x + 1) 0 - get_or o x 0 in (
+      length-take-le n (drop (get_or o x 0) r) (simp length-drop (omega arith)),
+      λ j k. get_or-take n (drop (get_or o x 0) r) j 0 k ∙ get_or-drop (get_or o x 0) r j 0,
+    )
 
 pub hashed_next : (o r : List ℕ) (x h n w : ℕ) → w ≡ word o r x n → mix (hashed o r x h n) w ≡ hashed o r x h (n + 1)
 unfolding hashed

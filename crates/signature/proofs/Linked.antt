@@ -4,7 +4,7 @@ use prog.Wired.{Code}
 use prog.Linked.{Tree, World, Holds, in_world}
 use prog.LinkedThreads.{HasT}
 use Rattle.signature.proofs.TheLink
-use Rattle.signature.proofs.number_by_signature.Symbol as number_by_signature-symbol
+use Rattle.signature.proofs.Signatures.number.Symbol as Signatures-number-symbol
 
 abbrev pub table : Tree
 table = TheLink.table
@@ -15,5 +15,5 @@ Below = TheLink.Below
 abbrev pub Found : Code → Type 0
 Found c = (W : World) → Holds W "signature" table → Below W → HasT (in_world W) true c
 
-pub has-number_by_signature : Found number_by_signature-symbol.code
-has-number_by_signature = TheLink.linked-signature::number_by_signature
+pub has-Signatures-number : Found Signatures-number-symbol.code
+has-Signatures-number = TheLink.linked-signature::Signatures::number

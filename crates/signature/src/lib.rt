@@ -3,11 +3,13 @@
 // Leans on marked for numbers from lowest items, on radix.
 #![tactic(auto)]
 
-ghost use Rattle.std.specs.Prelude.{◌≡◌, ◌++◌, ℕ, ◌+◌, ◌-◌, ◌*◌, ◌<◌, ◌≤◌, length, drop, get_or};
+ghost use Rattle.std.specs.Prelude.{◌≡◌, ℕ, ◌+◌, ◌-◌, ◌*◌, ◌<◌, ◌≤◌, length, get_or};
 ghost use Rattle.meaning.specs.Count.{tab, seek};
 ghost use Rattle.meaning.specs.Level.{first, number, class_count};
 ghost use Rattle.marked.specs.Lowest.{pack, Listed, item};
-ghost use Rattle.signature.specs.Signature.{alike_sig, mix, hash_sig, Laid};
+ghost use Rattle.signature.specs.Signature.{size, word, alike_sig, mix, hash_sig, Laid};
+
+use radix::Room;
 
 // One word more in a hash.
 fn stir(h: u64, w: u64) -> u64
@@ -17,121 +19,119 @@ fn stir(h: u64, w: u64) -> u64
     (h * 1000003 + w % 1099511627776) % 8388593
 }
 
-// The hash of x's signature.
-fn hash_of(groups: &[u16], starts: &[u16], rows: &[u64], n: usize, x: usize) -> u64
-    requires { Laid groups.now starts.now rows.now n × (x < n) }
-    ensures { (result ≡ hash_sig groups.now starts.now rows.now x) × (result < 8388593) }
-{
-    let at = starts[x] as usize;
-    let m = starts[x + 1] as usize - at;
-    let mut h = stir(0, groups[x] as u64);
-    for j in 0..m {
-        h = stir(h, rows[at + j]);
-    }
-    h
+// The signatures of items: the group of each, and its rows, which stand in rows from its start to that of the next.
+#[derive(Clone, Copy)]
+pub struct Signatures<'a> {
+    pub groups: &'a [u16],
+    pub starts: &'a [u16],
+    pub rows: &'a [u64],
+    pub ghost laid: { Laid groups.now starts.now rows.now (length groups.now) },
 }
 
-// x and y have the same signature.
-fn same(groups: &[u16], starts: &[u16], rows: &[u64], n: usize, x: usize, y: usize) -> bool
-    requires { Laid groups.now starts.now rows.now n × (x < n) × (y < n) }
-    ensures { result ≡ alike_sig groups.now starts.now rows.now x y }
-{
-    if groups[x] != groups[y] {
-        return false;
+impl<'a> Signatures<'a> {
+    fn rows_of(&self, x: usize) -> &'a [u64]
+        requires { x < length self.now.groups.now }
+        ensures { (length result.now ≡ size self.now.starts.now x)
+            × ((j : ℕ) → j < size self.now.starts.now x → get_or result.now j 0 ≡ word self.now.starts.now self.now.rows.now x j) }
+    {
+        &self.rows[self.starts[x] as usize..self.starts[x + 1] as usize]
     }
-    let a = starts[x] as usize;
-    let b = starts[y] as usize;
-    let m = starts[x + 1] as usize - a;
-    if m != starts[y + 1] as usize - b {
-        return false;
+
+    // The hash of x's signature.
+    fn hash_of(&self, x: usize) -> u64
+        requires { x < length self.now.groups.now }
+        ensures { (result ≡ hash_sig self.now.groups.now self.now.starts.now self.now.rows.now x) × (result < 8388593) }
+    {
+        let mut h = stir(0, self.groups[x] as u64);
+        let rows = self.rows_of(x);
+        for w in rows {
+            h = stir(h, *w);
+        }
+        h
     }
-    for j in 0..m {
-        if rows[a + j] != rows[b + j] {
+
+    // x and y have the same signature.
+    fn same(&self, x: usize, y: usize) -> bool
+        requires { (x < length self.now.groups.now) × (y < length self.now.groups.now) }
+        ensures { result ≡ alike_sig self.now.groups.now self.now.starts.now self.now.rows.now x y }
+    {
+        if self.groups[x] != self.groups[y] {
             return false;
         }
+        let of_x = self.rows_of(x);
+        let of_y = self.rows_of(y);
+        if of_x.len() != of_y.len() {
+            return false;
+        }
+        for (j, w) in of_x.iter().enumerate() {
+            if *w != of_y[j] {
+                return false;
+            }
+        }
+        true
     }
-    true
-}
 
-// Each item with its hash, in one word.
-fn put_hashes(groups: &[u16], starts: &[u16], rows: &[u64], n: usize, out: &mut [u64])
-    requires { Laid groups.now starts.now rows.now n × (n ≤ length out.old) }
-    ensures { out.new ≡ tab (pack (hash_sig groups.now starts.now rows.now)) n
-        ++ drop n out.old }
-{
-    for x in 0..n {
-        out[x] = hash_of(groups, starts, rows, n, x) * 1024 + x as u64;
-    }
-}
-
-// The first item from place r on that is alike the item at place p, which is itself the last that is tried.
-fn leader(
-    groups: &[u16],
-    starts: &[u16],
-    rows: &[u64],
-    n: usize,
-    s: &[u64],
-    r: usize,
-    p: usize,
-) -> usize
-    requires { Laid groups.now starts.now rows.now n × (n ≤ length s.now)
-        × ((q : ℕ) → q < n → item s.now q < n) × (r ≤ p) × (p < n) }
-    ensures { (result ≡ item s.now (seek (λ q.
-        alike_sig groups.now starts.now rows.now (item s.now q) (item s.now p)) r (p - r)))
-        × (result < n) }
-{
-    let x = (s[p] % 1024) as usize;
-    for q in r..p {
-        let y = (s[q] % 1024) as usize;
-        if same(groups, starts, rows, n, y, x) {
-            return y;
+    // Each item with its hash, in one word.
+    fn put_hashes(&self, out: &mut [u64])
+        requires { length out.old ≡ length self.now.groups.now }
+        ensures { out.new ≡ tab (pack (hash_sig self.now.groups.now self.now.starts.now self.now.rows.now)) (length self.now.groups.now) }
+    {
+        for x in 0..self.groups.len() {
+            out[x] = self.hash_of(x) * 1024 + x as u64;
         }
     }
-    x
-}
 
-// The lowest item alike each item: r is where the run of p's hash starts.
-fn find_firsts(
-    groups: &[u16],
-    starts: &[u16],
-    rows: &[u64],
-    n: usize,
-    s: &[u64],
-    firsts: &mut [u16],
-)
-    requires { Laid groups.now starts.now rows.now n × Listed (hash_sig groups.now starts.now rows.now) n s.now
-        × (n ≤ length s.now) × (n ≤ length firsts.old) }
-    ensures { (x : ℕ) → x < n → get_or firsts.new x 0
-        ≡ first (alike_sig groups.now starts.now rows.now) x }
-{
-    let mut r = 0;
-    for p in 0..n {
-        if s[p] / 1024 != s[r] / 1024 {
-            r = p;
-        }
-        let y = leader(groups, starts, rows, n, s, r, p);
+    // The first item from place r on that is alike the item at place p, which is itself the last that is tried.
+    fn leader(&self, s: &[u64], r: usize, p: usize) -> usize
+        requires as_many { length s.now ≡ length self.now.groups.now }
+        requires items { (q : ℕ) → q < length self.now.groups.now → item s.now q < length self.now.groups.now }
+        requires places { (r ≤ p) × (p < length self.now.groups.now) }
+        ensures { (result ≡ item s.now (seek (λ q.
+            alike_sig self.now.groups.now self.now.starts.now self.now.rows.now (item s.now q) (item s.now p)) r (p - r)))
+            × (result < length self.now.groups.now) }
+    {
         let x = (s[p] % 1024) as usize;
-        firsts[x] = y as u16;
+        for q in r..p {
+            let y = (s[q] % 1024) as usize;
+            if self.same(y, x) {
+                return y;
+            }
+        }
+        x
     }
-}
 
-// Each item's number: items of one signature have one number, numbered in order of their lowest item. a and b are room to work in.
-pub fn number_by_signature(
-    groups: &[u16],
-    starts: &[u16],
-    rows: &[u64],
-    n: usize,
-    a: &mut [u64],
-    b: &mut [u64],
-    out: &mut [u16],
-) -> usize
-    requires { Laid groups.now starts.now rows.now n × (n ≤ length a.old) × (n ≤ length b.old) × (n ≤ length out.old) }
-    ensures { (result ≡ class_count (tab (number (alike_sig groups.now starts.now rows.now)) n))
-        × (out.new ≡ tab (number (alike_sig groups.now starts.now rows.now)) n ++ drop n out.old) }
-{
-    put_hashes(groups, starts, rows, n, a);
-    radix::sort(a, n, b);
-    let mut firsts = [0u16; 1024];
-    find_firsts(groups, starts, rows, n, a, &mut firsts);
-    marked::number_firsts(&firsts, n, out)
+    // The lowest item alike each item: r is where the run of p's hash starts.
+    fn find_firsts(&self, s: &[u64], firsts: &mut [u16])
+        requires listed { Listed (hash_sig self.now.groups.now self.now.starts.now self.now.rows.now) (length self.now.groups.now) s.now }
+        requires as_many { (length s.now ≡ length self.now.groups.now) × (length firsts.old ≡ length self.now.groups.now) }
+        ensures { (x : ℕ) → x < length self.now.groups.now → get_or firsts.new x 0
+            ≡ first (alike_sig self.now.groups.now self.now.starts.now self.now.rows.now) x }
+    {
+        let mut r = 0;
+        for p in 0..s.len() {
+            if s[p] / 1024 != s[r] / 1024 {
+                r = p;
+            }
+            let y = self.leader(s, r, p);
+            let x = (s[p] % 1024) as usize;
+            firsts[x] = y as u16;
+        }
+    }
+
+    // Each item's number: items of one signature have one number, numbered in order of their lowest item.
+    pub fn number(&self, out: &mut [u16], room: Room) -> usize
+        requires { length out.old ≡ length self.now.groups.now }
+        ensures { (result ≡ class_count (tab (number (alike_sig self.now.groups.now self.now.starts.now self.now.rows.now)) (length self.now.groups.now)))
+            × (out.new ≡ tab (number (alike_sig self.now.groups.now self.now.starts.now self.now.rows.now)) (length self.now.groups.now)) }
+    {
+        let n = self.groups.len();
+        let Room { keys, other } = room;
+        let words = &mut keys[..n];
+        self.put_hashes(words);
+        radix::sort(words, other);
+        let mut firsts = [0u16; 1024];
+        let firsts = &mut firsts[..n];
+        self.find_firsts(words, firsts);
+        marked::number_firsts(firsts, out)
+    }
 }
