@@ -17,7 +17,8 @@ use Rattle.theory.proofs.CountLaws.{by_bool, no, and_inv, and_yes, bool_iff}
 use Rattle.theory.proofs.ShapeLaws.{well_parts, number_parts}
 use Rattle.links.specs.Order.{in_order}
 use Rattle.reader.proofs.Laws.{laid, edges_are}
-use Rattle.header.proofs.File.{groups_few}
+use Rattle.header.proofs.File.{groups_few, not_exact, when_exact, sized_of}
+use Rattle.matching.proofs.Laws.{keyed_no, keyed_as}
 
 -- ---- a condition that fails
 
@@ -107,3 +108,10 @@ links_judged s at m n e f g h = rw (h, ← made)
 
 pub room_for_links : (s : List ℕ) (at m : ℕ) → exact s ≡ true → at ≡ num2 s 20 → m ≡ length (summary_in s).links → at + 6 * m ≤ length s
 room_for_links s at m e f g = let l = laid s e in omega (arith, edges_are s)
+
+-- what the judges go by
+pub ruleset class_links = (laid, links_judged, room_for_links)
+
+pub ruleset parts = (no_sizes, no_range, ranged, sized_of, no_classes, no_rows, no_links, no_map, are_numbers, by_match, groups_low, rows_ascend, keyed_no, keyed_as)
+
+pub ruleset file = (not_exact, when_exact)

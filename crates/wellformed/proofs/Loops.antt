@@ -6,16 +6,16 @@ use Prim.Native.Nat.{ℕ, suc, ◌+◌, ◌≤◌, ◌<◌}
 use native.Mathlib.Omega.{arith}
 use borrow.Author.Tests.{le-leb, lt-leb, eq-eqb, eqb-true}
 use lib.Dec.{eqb, leb}
-use lib.ListN.{length, get_or, take, set}
+use lib.ListN.{length, get_or, take, set, replicate, get_or-replicate}
 use lib.Seq.{get_or-set_same, get_or-set_other}
 use Rattle.meaning.specs.Count.{all, each, ascends}
 use Rattle.meaning.specs.Summary.{Summary, no_class, no_row, class_of, row_of}
 use Rattle.meaning.specs.WellFormed.{row_key, class_in, row_in, groups_used}
 use Rattle.theory.proofs.CountLaws.{by_bool, by_eq, no, and_inv, and_yes, bool_iff, all_yes, all_at, all_no, all_and, past, ascends_tab, any_at, tab_same}
-use Rattle.theory.proofs.ShapeLaws.{any_place}
+use Rattle.theory.proofs.ShapeLaws.{any_place, class_group}
 use Rattle.lists.proofs.Laws.{front, places, each_places}
 use Rattle.header.proofs.File.{groups_few}
-use Rattle.matching.specs.Keys.{row_keys}
+use Rattle.header.specs.Keyed.{row_keys}
 
 -- ---- the rows
 
@@ -82,6 +82,9 @@ module _ (S : Summary) where
   pub none_marked : (used : List Bool) → ((q : ℕ) → q < 1024 → get_or used q false ≡ false) → Marked used 0
   none_marked used h = record { mine = λ i u. absurd (omega arith); whose = λ q u e. no e (h q u) }
 
+  pub fresh_marked : Marked (replicate 1024 false) 0
+  fresh_marked = none_marked (replicate 1024 false) (λ q h. get_or-replicate 1024 q false false h)
+
   pub one_marked : (used : List Bool) (k q : ℕ) → q ≡ group k → q < length used → Marked used k → Marked (set used q true) (k + 1)
   one_marked used k q e h m = record {
     mine = λ i u.
@@ -121,3 +124,7 @@ module _ (S : Summary) where
       sym (by_bool (each (class_in S) S.classes && groups_used S)
       (λ e. absurd (omega (arith, groups_few S (and_inv (each (class_in S) S.classes) (groups_used S) e).1)))
       (λ e. e))
+
+pub ruleset rows = (row_out, row_falls, row_rises_law, rows_all, past_none, past_next, keys_kept, key_set)
+
+pub ruleset classes = (class_out, groups_many, class_group)

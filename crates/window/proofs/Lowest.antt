@@ -69,3 +69,5 @@ module _ (S : Summary) where
 -- a class's group has its place among 1,024
 pub class_low : (s : List ℕ) → well_formed_file s ≡ true → (k g : ℕ) → g ≡ (class_of (summary_in s) k).group → k < length (summary_in s).classes → g < 1024
 class_low s e k g f h = omega (arith, f, (well_shaped (summary_in s) (well_file s e).1).groups_in k h, groups_file s e)
+
+pub ruleset lowest = (none_entered, one_entered, all_entered, class_low, well_file)

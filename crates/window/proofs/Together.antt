@@ -19,7 +19,7 @@ use Rattle.theory.proofs.CountLaws.{by_bool, and_inv, and_yes, get_d_tab, sum_sa
 use Rattle.theory.proofs.ShapeLaws.{well_parts, same_direction, own_direction}
 use Rattle.theory.proofs.OneLaws.{order_parts, way_tells, way_small}
 use Rattle.seek.specs.Keys.{Stands}
-use Rattle.matching.specs.Keys.{row_keys, Keyed}
+use Rattle.header.specs.Keyed.{row_keys, Keyed}
 use Rattle.header.proofs.File.{well_file, sized_file, groups_file}
 use Rattle.matching.proofs.Match.{row_at}
 use Rattle.matching.proofs.Laws.{keyed_rises}

@@ -2,13 +2,13 @@
 // reader for the file's numbers and on seek for the rows.
 #![tactic(auto)]
 
-ghost use Rattle.std.specs.Prelude.{◌≡◌, true, ℕ, ◌<◌, length, get_or};
+ghost use Rattle.std.specs.Prelude.{◌≡◌, ℕ, ◌<◌, length, get_or};
 ghost use Rattle.meaning.specs.Summary.{lowest_class};
 ghost use Rattle.meaning.specs.WellFormed as meant;
-ghost use Rattle.meaning.specs.SummaryFile.{summary_in, well_formed_file};
-ghost use Rattle.matching.specs.Keys.{Keyed};
+ghost use Rattle.meaning.specs.SummaryFile.{summary_in};
 ghost use Rattle.window.specs.Own.{Own};
 
+use header::WellFormed;
 use meaning::Direction;
 use names::{Class, Group};
 
@@ -21,17 +21,15 @@ pub struct Rows {
 
 // "the group's lowest-numbered class", for each group. From the last class to the first, each is entered at its group, so that the lowest
 // is the last to be.
-pub fn put_lowest(s: &[u8], lowest: &mut [u16])
-    requires { (well_formed_file s.now ≡ true) × (length lowest.old ≡ 1024) }
-    ensures { (length lowest.new ≡ 1024)
-        × ((g : ℕ) → g < (summary_in s.now).groups → get_or lowest.new g 0 ≡ lowest_class (summary_in s.now) g) }
+#[tactic(auto, using(crate::proofs::Lowest::lowest))]
+pub fn put_lowest(s: &WellFormed, lowest: &mut [u16])
+    requires { length lowest.old ≡ 1024 }
+    ensures { (length lowest.new ≡ 1024) × ((g : ℕ) → g < (summary_in s.now.summary.bytes.now).groups →
+        get_or lowest.new g 0 ≡ lowest_class (summary_in s.now.summary.bytes.now) g) }
 {
-    let c = reader::classes(s);
-    let mut passed = 0;
-    while passed < c {
-        passed += 1;
-        let class = Class((c - passed) as u16);
-        lowest[reader::group(s, class).index()] = class.0;
+    for k in (0..s.summary.classes() as u16).rev() {
+        let class = Class(k);
+        lowest[s.summary.group(class).index()] = class.0;
     }
 }
 
@@ -40,10 +38,11 @@ pub fn lowest_of(lowest: &[u16], group: Group) -> Class
     requires { group.0 < length lowest.now }
     ensures { result.0 ≡ get_or lowest.now group.0 0 }
 {
-    Class(lowest[group.0 as usize])
+    Class(lowest[group.index()])
 }
 
 // "direction times 16 plus label (out 0, in 1)".
+#[tactic(auto, unfolding(meaning::specs::WellFormed::way))]
 fn way(direction: Direction, label: u8) -> u16
     requires { label < 16 }
     ensures { result ≡ meant.way direction label }
@@ -55,13 +54,13 @@ fn way(direction: Direction, label: u8) -> u16
 }
 
 // "the class's rows in that direction and label": keys that begin alike stand together.
-pub fn rows_of(s: &[u8], keys: &[u64], class: Class, direction: Direction, label: u8) -> Rows
-    requires { (well_formed_file s.now ≡ true) × (length keys.now ≡ 4096) × Keyed true (summary_in s.now) keys.now × (label < 16) }
-    ensures { Own (summary_in s.now) class.0 direction label result.low result.high }
+pub fn rows_of(s: &WellFormed, class: Class, direction: Direction, label: u8) -> Rows
+    requires { label < 16 }
+    ensures { Own (summary_in s.now.summary.bytes.now) class.0 direction label result.low result.high }
 {
-    let r = reader::rows(s);
+    let r = s.summary.rows();
     let begin = class.0 as u64 * 65536 + way(direction, label) as u64;
-    let low = seek::find(keys, r, begin * 65536);
-    let high = seek::find(keys, r, (begin + 1) * 65536);
+    let low = seek::find(s.keys, r, begin * 65536);
+    let high = seek::find(s.keys, r, (begin + 1) * 65536);
     Rows { low, high }
 }
