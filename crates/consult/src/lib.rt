@@ -8,32 +8,22 @@ ghost use Rattle.meaning.specs.Summary.{lowest_class};
 ghost use Rattle.meaning.specs.SummaryFile.{summary_in, well_formed_file};
 ghost use Rattle.matching.specs.Keys.{Keyed};
 ghost use Rattle.consult.specs.Consulted.{Consulted, Holds, Counts, Answers, Remembers};
-ghost use Rattle.consult.specs.Consulted as consulted;
 
-use entry::Reading;
 use meaning::{Kind, Refusal};
 use names::{Class, Group};
-use question::{Asked, Filled, Spanned};
-
-// A count of neighbours.
-#[derive(Clone, Copy)]
-enum Counted {
-    Sum(u32),
-    Refused(Refusal),
-}
 
 // Whether the question, which has that depth, holds at the class.
-pub fn ask(q: &[u8], depth: usize, s: &[u8], keys: &[u64], class: Class) -> Asked
+pub fn ask(q: &[u8], depth: usize, s: &[u8], keys: &[u64], class: Class) -> Result<bool, Refusal>
     requires { (well_formed_file s.now ≡ true) × (length keys.now ≡ 4096) × Keyed true (summary_in s.now) keys.now
         × (class.0 < length (summary_in s.now).classes) }
     ensures { Holds q.now 0 (summary_in s.now) class.0 result }
 {
     let k = class.index();
     let mut answers = [false; 1024];
-    let Filled::Done = put_answers(q, depth, s, keys, k, k + 1, &mut answers) else {
-        return Asked::Refused(Refusal::Question);
+    let Ok(()) = put_answers(q, depth, s, keys, k, k + 1, &mut answers) else {
+        return Err(Refusal::Question);
     };
-    Asked::Said(answers[k])
+    Ok(answers[k])
 }
 
 // Whether it holds at each class from `from` up to `to`: "A question at an item of a summary is asked at its mapped class", so each class is
@@ -47,7 +37,7 @@ pub fn put_answers(
     from: usize,
     to: usize,
     answers: &mut [bool],
-) -> Filled
+) -> Result<(), Refusal>
     requires { (well_formed_file s.now ≡ true) × (length keys.now ≡ 4096) × Keyed true (summary_in s.now) keys.now
         × (to ≤ length (summary_in s.now).classes) × (length answers.old ≡ 1024) }
     ensures { Answers q.now (summary_in s.now) from to result answers.new }
@@ -76,20 +66,18 @@ fn put_each(
     from: usize,
     to: usize,
     answers: &mut [bool],
-) -> Filled
+) -> Result<(), Refusal>
     requires { Consulted s.now keys.now lowest.now × Remembers q.now (summary_in s.now) known.old
         × (to ≤ length (summary_in s.now).classes) × (length answers.old ≡ 1024) }
     ensures { Answers q.now (summary_in s.now) from to result answers.new }
 {
-    let mut k = from;
-    while k < to {
-        let Asked::Said(yes) = holds(q, 0, s, keys, lowest, known, Class(k as u16)) else {
-            return Filled::Refused(Refusal::Question);
+    for k in from..to {
+        let Ok(yes) = holds(q, 0, s, keys, lowest, known, Class(k as u16)) else {
+            return Err(Refusal::Question);
         };
         answers[k] = yes;
-        k += 1;
     }
-    Filled::Done
+    Ok(())
 }
 
 // Whether the tree at entry `at` holds at the class.
@@ -102,33 +90,35 @@ fn holds(
     lowest: &[u16],
     known: &mut [u8],
     class: Class,
-) -> Asked
+) -> Result<bool, Refusal>
     requires { Consulted s.now keys.now lowest.now × Remembers q.now (summary_in s.now) known.old
         × (class.0 < length (summary_in s.now).classes) }
     ensures holds { Holds q.now at (summary_in s.now) class.0 result }
     ensures known { Remembers q.now (summary_in s.now) known.new }
 {
-    let Reading::Entry(kind) = entry::read(q, at) else {
-        return Asked::Refused(Refusal::Question);
+    let Some(kind) = entry::read(q, at) else {
+        return Err(Refusal::Question);
     };
     match kind {
-        Kind::True => Asked::Said(true),
-        Kind::Literal(literal) => Asked::Said(entry::shows(reader::marks(s, class), literal)),
-        Kind::Not => memo::turned(holds(q, at + 1, s, keys, lowest, known, class)),
-        Kind::And | Kind::Or => {
-            let first = holds(q, at + 1, s, keys, lowest, known, class);
-            if memo::decides(kind, first) {
-                return first;
-            }
-            let Spanned::Tree {
-                depth: _,
-                threshold: _,
-                next,
-            } = question::span(q, at + 1)
-            else {
-                return Asked::Refused(Refusal::Question);
+        Kind::True => Ok(true),
+        Kind::Literal(literal) => Ok(entry::shows(reader::marks(s, class), literal)),
+        Kind::Not => {
+            let Ok(yes) = holds(q, at + 1, s, keys, lowest, known, class) else {
+                return Err(Refusal::Question);
             };
-            holds(q, next, s, keys, lowest, known, class)
+            Ok(!yes)
+        }
+        Kind::And | Kind::Or => {
+            let Ok(first) = holds(q, at + 1, s, keys, lowest, known, class) else {
+                return Err(Refusal::Question);
+            };
+            if memo::decides(kind, first) {
+                return Ok(first);
+            }
+            let Ok(operand) = question::span(q, at + 1) else {
+                return Err(Refusal::Question);
+            };
+            holds(q, operand.next, s, keys, lowest, known, class)
         }
         Kind::AtLeast {
             direction,
@@ -136,8 +126,19 @@ fn holds(
             threshold,
         } => {
             let own = window::rows_of(s, keys, class, direction, label);
-            let count = neighbour_count(q, at + 1, s, keys, lowest, known, own.low, own.high);
-            reached(threshold, count)
+            let Ok(neighbours) = neighbour_count(
+                q,
+                at + 1,
+                s,
+                keys,
+                lowest,
+                known,
+                own.low,
+                own.high,
+            ) else {
+                return Err(Refusal::Question);
+            };
+            Ok(threshold as u32 <= neighbours)
         }
     }
 }
@@ -154,23 +155,21 @@ fn neighbour_count(
     known: &mut [u8],
     low: usize,
     high: usize,
-) -> Counted
+) -> Result<u32, Refusal>
     requires { Consulted s.now keys.now lowest.now × Remembers q.now (summary_in s.now) known.old × (low ≤ high)
         × (high ≤ length (summary_in s.now).rows) }
     ensures counts { Counts q.now at (summary_in s.now) low high result }
     ensures known { Remembers q.now (summary_in s.now) known.new }
 {
     let mut sum = 0;
-    let mut row = low;
-    while row < high {
+    for row in low..high {
         let group = reader::row_group(s, row);
-        let Asked::Said(yes) = group_holds(q, at, s, keys, lowest, known, group) else {
-            return Counted::Refused(Refusal::Question);
+        let Ok(yes) = group_holds(q, at, s, keys, lowest, known, group) else {
+            return Err(Refusal::Question);
         };
         sum = added(sum, yes, reader::row_count(s, row));
-        row += 1;
     }
-    Counted::Sum(sum)
+    Ok(sum)
 }
 
 // "an operand holds at a group when it holds at the group's lowest-numbered class": worked out once for each entry and group, so that rows
@@ -184,29 +183,21 @@ fn group_holds(
     lowest: &[u16],
     known: &mut [u8],
     group: Group,
-) -> Asked
+) -> Result<bool, Refusal>
     requires { Consulted s.now keys.now lowest.now × Remembers q.now (summary_in s.now) known.old × (group.0 < (summary_in s.now).groups) }
     ensures holds { Holds q.now at (summary_in s.now) (lowest_class (summary_in s.now) group.0) result }
     ensures known { Remembers q.now (summary_in s.now) known.new }
 {
     let slot = memo::slot_of(at, group.0);
-    let told = memo::recalled(known, slot);
-    if told != 0 {
-        return Asked::Said(told == 2);
+    if let Some(yes) = memo::recalled(known, slot) {
+        return Ok(yes);
     }
-    let Asked::Said(yes) = holds(
-        q,
-        at,
-        s,
-        keys,
-        lowest,
-        known,
-        window::lowest_of(lowest, group),
-    ) else {
-        return Asked::Refused(Refusal::Question);
+    let class = window::lowest_of(lowest, group);
+    let Ok(yes) = holds(q, at, s, keys, lowest, known, class) else {
+        return Err(Refusal::Question);
     };
     memo::remember(known, slot, yes);
-    Asked::Said(yes)
+    Ok(yes)
 }
 
 // The row's count, where the operand holds.
@@ -215,14 +206,4 @@ fn added(sum: u32, yes: bool, count: u16) -> u32
     ensures { result ≡ sum + cond yes count 0 }
 {
     if yes { sum + count as u32 } else { sum }
-}
-
-// "at least t .. neighbours .. satisfy the operand".
-fn reached(threshold: u8, count: Counted) -> Asked
-    ensures { result ≡ consulted.reached threshold count }
-{
-    let Counted::Sum(neighbours) = count else {
-        return Asked::Refused(Refusal::Question);
-    };
-    Asked::Said(threshold as u32 <= neighbours)
 }

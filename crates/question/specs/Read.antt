@@ -22,11 +22,15 @@ pub data Parsed (q : List ℕ) : ℕ → Question → ℕ → Type 0 where
   p_or : {i j k : ℕ} {t u : Question} → entry_at q i ≡ some Or → Parsed q (i + 1) t j → Parsed q j u k → Parsed q i (either t u) k
   p_least : {i k : ℕ} {t : Question} {d : Direction} {l n : ℕ} → entry_at q i ≡ some (AtLeast d l n) → Parsed q (i + 1) t k → Parsed q i (at_least d l n t) k
 
+-- no tree stands at entry i
+abbrev pub Treeless : List ℕ → ℕ → Type 0
+Treeless q i = (u : Question) (n : ℕ) → Parsed q i u n → ⊥
+
 -- what is told of the entries from i on: the depth and the greatest threshold of the tree that stands there, and the entry after
 -- it; or, with number 5, that no tree stands there
 unfoldable pub Spans : List ℕ → ℕ → Result Tree Refusal → Type 0
 Spans q i (Ok s) = (u : Question) × Parsed q i u s.next × (depth u ≡ s.depth) × (threshold u ≡ s.threshold)
-Spans q i (Err r) = (r ≡ Malformation) × ((u : Question) (n : ℕ) → Parsed q i u n → ⊥)
+Spans q i (Err r) = (r ≡ Malformation) × Treeless q i
 
 -- the same of two operands together: "the others have the greatest of their operands' depths"
 abbrev pub joined : Tree → Tree → Tree

@@ -19,6 +19,3 @@ abbrev pub invariant-neighbour_count-loop-row : goal.invariant-neighbour_count-l
 invariant-neighbour_count-loop-row l =
     (l.low ≤ l.row) × (l.row ≤ l.high) × (l.sum ≤ 8 * (l.row - l.low)) × Summed l.q l.at (summary_in l.s) l.low l.row l.sum
     × Remembers l.q (summary_in l.s) l.known × (length l.known ≡ length l.initial.known)
-
-abbrev pub decreases-neighbour_count-loop-row : goal.decreases-neighbour_count-loop-row
-decreases-neighbour_count-loop-row l = l.high - l.row

@@ -1,20 +1,7 @@
 -- The lowest classes are put, and then each class is asked, with nothing known yet.
 use native.Mathlib.Omega.{arith}
 use Rattle.memo.proofs.Laws.{remembers_none}
-use borrow.Author.Rules.{rules}
 use Rattle.consult.proofs.put_answers.Goals as goal
-
-pub put_lowest-requires : goal.put_lowest-requires
-put_lowest-requires c = (c.requires.0, search rules)
-
-pub put_each-requires : goal.put_each-requires
-put_each-requires c =
-    let s = c.requires in
-    let low = c.put_lowest.ensures in
-    (record { well = s.0; keys_long = s.1; kept = s.2; lowest_long = low.0; lowest_are = low.1 }, remembers_none _ _ 1 (omega arith), s.3, s.4)
-
-pub returns-then-depth-lt2 : goal.returns-then-depth-lt2
-returns-then-depth-lt2 c = c.put_each.ensures
 
 pub put_each-requires-then-q-le64 : goal.put_each-requires-then-q-le64
 put_each-requires-then-q-le64 c =
@@ -22,14 +9,8 @@ put_each-requires-then-q-le64 c =
     let low = c.put_lowest.ensures in
     (record { well = s.0; keys_long = s.1; kept = s.2; lowest_long = low.0; lowest_are = low.1 }, remembers_none _ _ 16384 (omega arith), s.3, s.4)
 
-pub returns-then-q-le64 : goal.returns-then-q-le64
-returns-then-q-le64 c = c.put_each-then-q-le64.ensures
-
 pub put_each-requires-2 : goal.put_each-requires-2
 put_each-requires-2 c =
     let s = c.requires in
     let low = c.put_lowest.ensures in
     (record { well = s.0; keys_long = s.1; kept = s.2; lowest_long = low.0; lowest_are = low.1 }, remembers_none _ _ 65536 (omega arith), s.3, s.4)
-
-pub returns : goal.returns
-returns c = c.put_each-2.ensures

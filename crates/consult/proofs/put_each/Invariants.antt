@@ -1,6 +1,5 @@
 -- The classes from `from` up to k are answered.
 use mathlib.Core.Path.{◌≡◌}
-use Prim.Native.Nat.{◌-◌}
 use lib.ListN.{length}
 use Rattle.meaning.specs.SummaryFile.{summary_in}
 use Rattle.consult.specs.Consulted.{Remembers}
@@ -10,6 +9,3 @@ use Rattle.consult.proofs.put_each.Given as goal
 abbrev pub invariant-loop-k : goal.invariant-loop-k
 invariant-loop-k l =
     Answered l.q (summary_in l.s) l.from l.answers l.k × (length l.answers ≡ length l.initial.answers) × Remembers l.q (summary_in l.s) l.known × (length l.known ≡ length l.initial.known)
-
-abbrev pub decreases-loop-k : goal.decreases-loop-k
-decreases-loop-k l = l.to - l.k
