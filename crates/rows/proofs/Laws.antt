@@ -8,7 +8,7 @@ use native.Mathlib.Numerals.{add-one}
 use borrow.Author.Tests.{eq-eqb, ne_eqb, eqb-true, eqb-false, ltb-true, ltb-false}
 use lib.Dec.{eqb, ltb}
 use lib.ListN.{take, length, get_or, drop, set, length-append}
-use lib.Seq.{take-suc, take_at, set_at, drop-cons, append_snoc}
+use lib.Seq.{take-suc, take-length, set_at, drop-cons, append_snoc}
 use Rattle.meaning.specs.Count.{sum, tally, join, total}
 use Rattle.theory.proofs.CountLaws.{by_bool, eqb_sym, sum_zero, total_append}
 use Rattle.order.specs.Sorted.{sorted, times}
@@ -62,24 +62,11 @@ often_times s v (suc k) h =
     rw (take-suc s k 0 (omega arith), total_append (λ x. cond (eqb v x) 1 0) (take k s), eqb_sym (get_or s k 0) v)
     (omega (arith, often_times s v k (omega arith)))
 
-pub often_sorted : (old s : List ℕ) (k : ℕ) → k ≤ length old → s ≡ sorted old k ++ drop k old → (v : ℕ) → often s k v ≡ often old k v
+pub often_sorted : (old s : List ℕ) (k : ℕ) → k ≡ length old → s ≡ sorted old (length old) → (v : ℕ) → often s k v ≡ often old k v
 often_sorted old s k h e v =
-    let n = length_sorted old k in
-    let m : k ≤ length s = omega (arith, ap length e, length-append (sorted old k) (drop k old)) in
-    often_times s v k m ∙ ap (times v) (ap (take k) e ∙ take_at (sorted old k) (drop k old) k n) ∙ sorted_times v old k h ∙ sym (often_times old v k h)
-
--- ---- the walk over a run
-
--- a turn of the loop that seeks a run's end
-pub same_first : (s : List ℕ) (p i : ℕ) → p ≤ i → i < p + 1 → get_or s i 0 ≡ get_or s p 0
-same_first s p i h g = let e : i ≡ p = omega arith in ap (λ (n : ℕ). get_or s n 0) e
-
-pub same_next : (s : List ℕ) (p q v : ℕ) → v ≡ get_or s p 0 → get_or s q 0 ≡ v → ((i : ℕ) → p ≤ i → i < q → get_or s i 0 ≡ get_or s p 0) → (i : ℕ) → p ≤ i →
-    i < q + 1 → get_or s i 0 ≡ get_or s p 0
-same_next s p q v e f h i a b =
-    by_bool (ltb i q)
-    (λ t. h i a (ltb-true i q t))
-    (λ t. let z : i ≡ q = omega (arith, ltb-false i q t) in ap (λ (n : ℕ). get_or s n 0) z ∙ f ∙ e)
+    let n : length s ≡ k = ap length e ∙ length_sorted old (length old) ∙ sym h in
+    let f : s ≡ sorted old k = rw h e in
+    often_times s v k (omega arith) ∙ ap (times v) ((rw n at (take-length s)) ∙ f) ∙ sorted_times v old k (omega arith) ∙ sym (often_times old v k (omega arith))
 
 -- ---- the rows below a key
 

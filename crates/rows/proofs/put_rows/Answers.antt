@@ -1,8 +1,8 @@
 -- There is a number below which all keys are done (`Done`), at most the present item's first key.
-use mathlib.Core.Path.{◌≡◌, refl, ap}
-use Prim.Native.Nat.{ℕ, ◌+◌, ◌-◌, ◌*◌, ◌%◌, ◌<◌}
+use mathlib.Core.Path.{◌≡◌, ap}
+use Prim.Native.Nat.{ℕ, ◌+◌, ◌*◌, ◌%◌, ◌<◌}
 use native.Mathlib.Omega.{arith}
-use lib.ListN.{length-set}
+use lib.ListN.{length}
 use Rattle.order.proofs.Front.{tab_none, tab_more}
 use Rattle.rows.specs.Rows.{start_of}
 use Rattle.rows.proofs.Laws.{done_none, done_row, done_item, done_all, not_past}
@@ -11,76 +11,47 @@ use Rattle.rows.proofs.put_rows.Goals as goal
 pub loop-x-init : goal.loop-x-init
 loop-x-init c =
     let a = c.args in
-    (omega arith, refl, refl, tab_none (start_of a.mu a.s.now a.k) a.starts.now, (0, done_none a.mu a.s.now a.k a.n a.rows.now))
-
-pub overflow_mul-stop : goal.overflow_mul-stop
-overflow_mul-stop c = omega arith
-
-pub key_or-v-requires : goal.key_or-v-requires
-key_or-v-requires c = omega arith
-
-pub run_from-run-requires : goal.run_from-run-requires
-run_from-run-requires c =
-    let a = c.args in
-    let l = c.loop-x in
-    let h : l.p < a.k = not_past l.p a.k _ _ c.key_or-v.ensures.1 c.if-v-stop.true in
-    (omega arith, h, omega (arith, c.requires))
-
-pub overflow_mul-rows : goal.overflow_mul-rows
-overflow_mul-rows c = omega arith
-
-pub overflow_cast-rows : goal.overflow_cast-rows
-overflow_cast-rows c = omega arith
+    (omega arith, tab_none (start_of a.mu a.s.now (length a.s.now)) a.starts.now, (0, done_none a.mu a.s.now (length a.s.now) a.n a.rows.now))
 
 pub overflow_add-rows : goal.overflow_add-rows
 overflow_add-rows c = omega (arith, c.run_from-run.ensures.1)
-
-pub offset_bounds-rows-j : goal.offset_bounds-rows-j
-offset_bounds-rows-j c =
-    let a = c.args in
-    let l = c.loop-x in
-    let d = l.invariant.4.1 in
-    let h : l.p < a.k = not_past l.p a.k _ _ c.key_or-v.ensures.1 c.if-v-stop.true in
-    omega (arith, d.few)
 
 pub bounds-rows-j : goal.bounds-rows-j
 bounds-rows-j c =
     let a = c.args in
     let l = c.loop-x in
-    let d = l.invariant.4.1 in
-    let h : l.p < a.k = not_past l.p a.k _ _ c.key_or-v.ensures.1 c.if-v-stop.true in
+    let d = l.invariant.2.1 in
+    let h : l.p < length a.s.now = not_past l.p (length a.s.now) _ _ c.key_or-v.ensures.1 c.if-v-stop.true in
     omega (arith, d.few)
 
 pub overflow_add-j : goal.overflow_add-j
 overflow_add-j c =
     let a = c.args in
     let l = c.loop-x in
-    let d = l.invariant.4.1 in
-    let h : l.p < a.k = not_past l.p a.k _ _ c.key_or-v.ensures.1 c.if-v-stop.true in
+    let d = l.invariant.2.1 in
+    let h : l.p < length a.s.now = not_past l.p (length a.s.now) _ _ c.key_or-v.ensures.1 c.if-v-stop.true in
     omega (arith, d.few)
 
 pub loop-x-smaller-then-v-stop : goal.loop-x-smaller-then-v-stop
 loop-x-smaller-then-v-stop c =
     let a = c.args in
     let l = c.loop-x in
-    let d = l.invariant.4.1 in
-    let h : l.p < a.k = not_past l.p a.k _ _ c.key_or-v.ensures.1 c.if-v-stop.true in
+    let d = l.invariant.2.1 in
+    let h : l.p < length a.s.now = not_past l.p (length a.s.now) _ _ c.key_or-v.ensures.1 c.if-v-stop.true in
     omega (arith, d.few, c.run_from-run.ensures.0.some, c.run_from-run.ensures.0.within)
 
 pub loop-x-preserved-then-v-stop : goal.loop-x-preserved-then-v-stop
 loop-x-preserved-then-v-stop c =
     let a = c.args in
     let l = c.loop-x in
-    let d = l.invariant.4.1 in
-    let h : l.p < a.k = not_past l.p a.k _ _ c.key_or-v.ensures.1 c.if-v-stop.true in
+    let d = l.invariant.2.1 in
+    let h : l.p < length a.s.now = not_past l.p (length a.s.now) _ _ c.key_or-v.ensures.1 c.if-v-stop.true in
     let r = c.run_from-run.ensures in (
       omega arith,
-      simp length-set l.invariant.1,
-      l.invariant.2,
-      l.invariant.3,
+      l.invariant.1,
       (
         c.key_or-v.result + 1,
-        done_row a.mu a.s.now a.k a.n l.x l.p l.j a.rows.now l.rows l.invariant.4.0 d c.requires.6
+        done_row a.mu a.s.now (length a.s.now) a.n l.x l.p l.j a.rows.now l.rows l.invariant.2.0 d c.requires.sorted
             c.key_or-v.result _ _ h (c.key_or-v.ensures.0 h) c.if-v-stop.true (omega arith) r.0 (omega (arith, c.requires))
             (ap (λ (m : ℕ). c.key_or-v.result % 32768 * 16 + m) r.1),
       ),
@@ -88,19 +59,7 @@ loop-x-preserved-then-v-stop c =
 
 pub overflow_cast-starts : goal.overflow_cast-starts
 overflow_cast-starts c =
-    omega (arith, c.loop-x.invariant.4.1.few, c.loop-x.invariant.4.1.places, c.requires)
-
-pub offset_bounds-starts-x : goal.offset_bounds-starts-x
-offset_bounds-starts-x c = omega arith
-
-pub bounds-starts-x : goal.bounds-starts-x
-bounds-starts-x c = omega arith
-
-pub overflow_add-x : goal.overflow_add-x
-overflow_add-x c = omega arith
-
-pub loop-x-smaller : goal.loop-x-smaller
-loop-x-smaller c = omega arith
+    omega (arith, c.loop-x.invariant.2.1.few, c.loop-x.invariant.2.1.places, c.requires)
 
 pub loop-x-preserved : goal.loop-x-preserved
 loop-x-preserved c =
@@ -108,25 +67,17 @@ loop-x-preserved c =
     let l = c.loop-x in
     let e = c.key_or-v.ensures.0 in
     let d =
-    done_item a.mu a.s.now a.k a.n l.x l.p l.j a.rows.now l.rows l.invariant.4.0 l.invariant.4.1 c.requires.6 (omega arith)
+    done_item a.mu a.s.now (length a.s.now) a.n l.x l.p l.j a.rows.now l.rows l.invariant.2.0 l.invariant.2.1 c.requires.sorted (omega arith)
     (λ h. omega (arith, e h, c.if-v-stop.false)) in (
       omega arith,
-      l.invariant.1,
-      simp length-set l.invariant.2,
-      rw l.invariant.3 (tab_more (start_of a.mu a.s.now a.k) l.x l.j a.starts.now (omega (arith, c.requires)) d.1),
+      rw l.invariant.1 (tab_more (start_of a.mu a.s.now (length a.s.now)) l.x l.j a.starts.now (omega (arith, c.requires)) d.1),
       (l.x * 32768, d.0),
     )
-
-pub shape_of-rows : goal.shape_of-rows
-shape_of-rows c = omega arith
-
-pub shape_of-starts : goal.shape_of-starts
-shape_of-starts c = omega arith
 
 pub returns : goal.returns
 returns c =
     let a = c.args in
     let l = c.loop-x in
     let e : l.x ≡ a.n + 1 = omega arith in
-    let d = done_all a.mu a.s.now a.k a.n l.x l.p l.j a.rows.now l.rows l.invariant.4.0 l.invariant.4.1 (omega arith) in
-    (d.0, d.1, rw e at l.invariant.3)
+    let d = done_all a.mu a.s.now (length a.s.now) a.n l.x l.p l.j a.rows.now l.rows l.invariant.2.0 l.invariant.2.1 (omega arith) in
+    (d.0, d.1, rw e at l.invariant.1)

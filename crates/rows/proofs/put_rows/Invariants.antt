@@ -10,8 +10,8 @@ use Rattle.rows.proofs.put_rows.Given as goal
 
 abbrev pub invariant-loop-x : goal.invariant-loop-x
 invariant-loop-x l =
-    (l.x ≤ l.n + 1) × (length l.rows ≡ length l.initial.rows) × (length l.starts ≡ length l.initial.starts) × (l.starts ≡ tab (start_of l.mu l.s l.k) l.x ++ drop l.x l.initial.starts)
-    × ((low : ℕ) × Done l.mu l.s l.k l.n l.x l.p l.j l.initial.rows l.rows low)
+    (l.x ≤ l.n + 1) × (l.starts ≡ tab (start_of l.mu l.s (length l.s)) l.x ++ drop l.x l.initial.starts)
+    × ((low : ℕ) × Done l.mu l.s (length l.s) l.n l.x l.p l.j l.initial.rows l.rows low)
 
 abbrev pub decreases-loop-x : goal.decreases-loop-x
-decreases-loop-x l = (l.n + 1 - l.x) + (l.k - l.p)
+decreases-loop-x l = (l.n + 1 - l.x) + ((length l.s) - l.p)
