@@ -2,16 +2,18 @@
 // else; it comes before 8 and 9.
 #![tactic(auto)]
 
-ghost use Rattle.std.specs.Prelude.{◌≡◌, true, ◌||◌, ◌+◌, ltb};
-ghost use Rattle.meaning.specs.SummaryFile.{summary_in, well_formed_file};
+ghost use Rattle.std.specs.Prelude.{◌≡◌, ◌||◌, ◌+◌, ltb};
+ghost use Rattle.meaning.specs.SummaryFile.{summary_in};
 
-// The question's depth and its greatest threshold, on any of its entries.
-pub fn beyond(s: &[u8], depth: usize, threshold: usize) -> bool
-    requires { well_formed_file s.now ≡ true }
-    ensures { result ≡ ltb (summary_in s.now).level depth || ltb ((summary_in s.now).near_cap + 1) threshold }
+use question::Needs;
+use reader::Summary;
+
+pub fn beyond(s: &Summary, needs: Needs) -> bool
+    ensures { result ≡ ltb (summary_in s.now.bytes.now).level needs.depth
+        || ltb ((summary_in s.now.bytes.now).near_cap + 1) needs.threshold }
 {
-    if (reader::level(s) as usize) < depth {
+    if (s.level() as usize) < needs.depth {
         return true;
     }
-    reader::near_cap(s) as usize + 1 < threshold
+    s.near_cap() as usize + 1 < needs.threshold
 }

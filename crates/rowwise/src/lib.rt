@@ -12,7 +12,7 @@ ghost use Rattle.meaning.specs.SummaryFile.{summary_in, exact};
 ghost use Rattle.register.specs.Told.{OfRegister};
 ghost use Rattle.reader.specs.Sized.{HasRow};
 ghost use Rattle.surround.specs.Surroundings.{word_of};
-ghost use Rattle.header.specs.Proposed.{Proposed};
+ghost use Rattle.proposed.specs.Proposed.{Proposed};
 ghost use Rattle.rowwise.specs.Searched.{Searched, Started};
 ghost use Rattle.rowwise.specs.Rows.{class_rows, same_words};
 

@@ -2,7 +2,7 @@
 use mathlib.Core.Path.{sym, ◌∙◌}
 use native.Mathlib.Omega.{arith}
 use Rattle.header.proofs.File.{well_file}
-use Rattle.header.proofs.Proposed.{proposed}
+use Rattle.proposed.proofs.Laws.{proposed}
 use Rattle.rowwise.proofs.Window.{searched}
 use Rattle.proposal.proofs.Laws.{no_items, no_marks, no_counts, no_links, only_rows}
 use Rattle.proposal.proofs.check.Goals as goal

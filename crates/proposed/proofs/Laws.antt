@@ -7,7 +7,7 @@ use native.Mathlib.Omega.{arith}
 use lib.ListN.{length}
 use Rattle.meaning.specs.SummaryFile.{summary_in, well_formed_file}
 use Rattle.theory.proofs.ShapeLaws.{well_shaped}
-use Rattle.header.specs.Proposed.{Proposed}
+use Rattle.proposed.specs.Proposed.{Proposed}
 use Rattle.header.proofs.File.{well_file, sized_file, groups_file}
 
 pub proposed : (s : List ℕ) (n : ℕ) → well_formed_file s ≡ true → length (summary_in s).map ≡ n → Proposed s n

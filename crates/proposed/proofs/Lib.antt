@@ -1,0 +1,2 @@
+-- What a well-formed summary of as many items has.
+pub mod Laws
