@@ -1,7 +1,7 @@
 -- Every class passed states the count of its items.
 use mathlib.Core.Path.{◌≡◌}
 use mathlib.Core.Bool.{true}
-use Prim.Native.Nat.{ℕ, ◌-◌, ◌≤◌, ◌<◌}
+use Prim.Native.Nat.{ℕ, ◌<◌}
 use lib.Dec.{eqb}
 use Rattle.meaning.specs.Count.{tally}
 use Rattle.meaning.specs.Cap.{cap}
@@ -11,8 +11,5 @@ use Rattle.counted.proofs.counts_equal.Given as goal
 
 abbrev pub invariant-loop-k : goal.invariant-loop-k
 invariant-loop-k l =
-    (l.k ≤ l.c) ×
-    ((i : ℕ) → i < l.k → eqb (class_of (summary_in l.s) i).count (cap (summary_in l.s).class_cap (tally (λ x. eqb (class_at (summary_in l.s) x) i) l.n)) ≡ true)
-
-abbrev pub decreases-loop-k : goal.decreases-loop-k
-decreases-loop-k l = l.c - l.k
+    let S = summary_in l.s.summary.bytes.now in
+    (i : ℕ) → i < l.k → eqb (class_of S i).count (cap S.class_cap (tally (λ x. eqb (class_at S x) i) l.n)) ≡ true
