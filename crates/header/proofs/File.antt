@@ -7,11 +7,11 @@ use native.Mathlib.Omega.{arith}
 use lib.Dec.{eqb}
 use lib.ListN.{length}
 use Rattle.meaning.specs.Count.{sum, total}
-use Rattle.meaning.specs.Summary.{Summary, no_class}
+use Rattle.meaning.specs.Summary.{Summary, no_class, class_of, class_at}
 use Rattle.meaning.specs.WellFormed.{in_range, sizes, groups_used, well_formed}
 use Rattle.meaning.specs.SummaryFile.{summary_in, exact, well_formed_file}
 use Rattle.theory.proofs.CountLaws.{by_bool, no, sum_total, one_of, total_le, total_length, any_total, every_get_d, all_at}
-use Rattle.theory.proofs.ShapeLaws.{well_parts}
+use Rattle.theory.proofs.ShapeLaws.{well_parts, well_shaped}
 use Rattle.promise.proofs.Promise.{size_parts, in_range_law}
 use Rattle.header.specs.Limits.{Sized}
 
@@ -57,5 +57,33 @@ well_file s e = by_bool (exact s) (λ h. (h, rw h at e)) (λ h. no {t = false} (
 pub sized_file : (s : List ℕ) → well_formed_file s ≡ true → Sized s
 sized_file s e = let w = well_file s e in let p = well_parts (summary_in s) w.1 in sized_of s w.0 p.1 p.0
 
+-- the same, each by itself
+module _ (s : List ℕ) (well : well_formed_file s ≡ true) where
+  pub few_classes : length (summary_in s).classes ≤ 1024
+  few_classes = (sized_file s well).few_classes
+
+  pub few_items : length (summary_in s).map ≤ 1024
+  few_items = (sized_file s well).few_items
+
+  pub few_rows : length (summary_in s).rows ≤ 4096
+  few_rows = (sized_file s well).few_rows
+
+  pub few_links : length (summary_in s).links ≤ 2048
+  few_links = (sized_file s well).few_links
+
+  pub near_low : (summary_in s).near_cap ≤ 7
+  near_low = (sized_file s well).near_low
+
+  pub class_low : (summary_in s).class_cap ≤ 15
+  class_low = (sized_file s well).class_low
+
+  pub class_in : (x : ℕ) → x < length (summary_in s).map → class_at (summary_in s) x < length (summary_in s).classes
+  class_in = (well_shaped (summary_in s) (well_file s well).1).classes_in
+
+  pub group_in : (k : ℕ) → k < length (summary_in s).classes → (class_of (summary_in s) k).group < (summary_in s).groups
+  group_in = (well_shaped (summary_in s) (well_file s well).1).groups_in
+
 pub groups_file : (s : List ℕ) → well_formed_file s ≡ true → (summary_in s).groups ≤ 1024
 groups_file s e = omega (arith, groups_few (summary_in s) (well_parts (summary_in s) (well_file s e).1).4, (sized_file s e).few_classes)
+
+pub ruleset limits = (few_classes, few_items, few_rows, few_links, near_low, class_low, class_in, group_in, groups_file)
