@@ -1,6 +1,6 @@
 -- The parts that the writer gathers are those of the summary of these groups and classes, within their limits. Leans on theory's limits,
 -- on alike's levels and on summary's laws of parts.
-use mathlib.Core.Path.{◌≡◌, refl, sym, subst, ◌∙◌}
+use mathlib.Core.Path.{◌≡◌, sym, subst, ◌∙◌}
 use mathlib.Core.List.{List}
 use Prim.Native.Nat.{ℕ, ◌*◌, ◌≤◌, pred}
 use native.Mathlib.Omega.{arith}
@@ -21,8 +21,8 @@ use Rattle.register.proofs.Laws.{limits}
 use Rattle.alike.specs.Step.{Reached}
 use Rattle.surround.proofs.Keys.{of_fine}
 use Rattle.alike.proofs.ByLevel.{take_level}
-use Rattle.summary.specs.Numbers.{numbers, head_of, head_numbers, class_fields, class_numbers, row_numbers, edge_numbers}
-use Rattle.summary.proofs.Laws.{parts_bytes}
+use Rattle.summary.specs.Numbers.{numbers, summary_numbers, head_of, head_numbers, class_fields, class_numbers, row_numbers, edge_numbers}
+use Rattle.summary.proofs.Laws.{numbers_bytes}
 use Rattle.classes.specs.Counted.{Sorted}
 use Rattle.filed.specs.Copied.{Given, class_rows}
 use Rattle.filed.proofs.Laws.{rows_long}
@@ -31,7 +31,7 @@ use Rattle.condense.specs.Classed.{Classed}
 
 -- ---- the parts
 
-module _ (b : List ℕ) (n m µ ν g c : ℕ) (groups map starts words : List ℕ) (i : ℕ) (k : Classed b n m µ g c groups map starts words) where
+module _ {b : List ℕ} {n m µ g c : ℕ} {groups map starts words : List ℕ} (k : Classed b n m µ g c groups map starts words) where
   abbrev R : Register
   R = register_in b
 
@@ -40,9 +40,6 @@ module _ (b : List ℕ) (n m µ ν g c : ℕ) (groups map starts words : List �
 
   abbrev cs : List ℕ
   cs = take n map
-
-  abbrev S : Summary
-  S = summary_by µ ν R gs cs i
 
   pub few_items : n ≤ 1024
   few_items = (limits b n m k.register).0
@@ -85,33 +82,44 @@ module _ (b : List ℕ) (n m µ ν g c : ℕ) (groups map starts words : List �
         numbered = classes_numbered;
       }
 
+  -- what the writer of rows says of their number and of the numbers
+  abbrev pub Rows : ℕ → List ℕ → Type 0
+  Rows r out =
+      (R : Register) (µ : ℕ) (gs : List ℕ) → Given R µ gs n map starts words →
+      (r ≡ length (class_rows R µ gs cs)) × (take (4 * r) out ≡ pack row_numbers (class_rows R µ gs cs))
+
   -- "r ≤ 2m", "e ≤ m"
   pub few_rows : length (class_rows R µ gs cs) ≤ 4096
   unfolding summary_by
-  few_rows = omega (arith, rows_most µ ν R (of_fine b n m k.register) k.level gs cs k.numbered i, k.register.links_are, limits b n m k.register)
+  few_rows = omega (arith, rows_most µ 0 R (of_fine b n m k.register) k.level gs cs k.numbered 0, k.register.links_are, limits b n m k.register)
 
   pub few_links : length (class_links R cs) ≤ 2048
   unfolding summary_by
-  few_links = omega (arith, links_most µ ν R (of_fine b n m k.register) k.level gs cs k.numbered i, k.register.links_are, limits b n m k.register)
+  few_links = omega (arith, links_most µ 0 R (of_fine b n m k.register) k.level gs cs k.numbered 0, k.register.links_are, limits b n m k.register)
 
-  -- the header's numbers from the counts
-  pub head_is : (head : List ℕ) (c' g' r e r' e' n' : ℕ) → c' ≡ c → g' ≡ g → r' ≡ r → e' ≡ e → n' ≡ n → r ≡ length (class_rows R µ gs cs) → e ≡ length (class_links R cs) →
-      head ≡ head_of i µ ν c' g' r' e' n' → take 12 head ≡ head_numbers S
-  unfolding head_numbers head_of summary_by
-  head_is head c' g' r e r' e' n' ec eg er ee en hr he h =
-      let lc : c' ≡ length (tab (class_for ν R gs cs) (class_count cs)) = ec ∙ k.classes_are ∙ sym (length_tab (class_for ν R gs cs) (class_count cs)) in
-      let lm : n' ≡ length cs = en ∙ k.register.items_are ∙ sym k.numbered.long in
-      let lg : g' ≡ class_count gs = eg ∙ k.groups_are in
-      let lr : r' ≡ length (class_rows R µ gs cs) = er ∙ hr in
-      let le : e' ≡ length (class_links R cs) = ee ∙ he in
-      rw (h, lc, lm, lg, lr, le)
+  -- as many as the writers of rows and of class links say
+  pub rows_fit : (r : ℕ) (out : List ℕ) → Rows r out → (r ≡ length (class_rows R µ gs cs)) × (take (4 * r) out ≡ pack row_numbers (class_rows R µ gs cs)) × (r ≤ 4096)
+  rows_fit r out w = let e = w R µ gs given in (e.0, e.1, omega (arith, e, few_rows))
 
-  pub bytes_are : (head classes rows edges : List ℕ) (r e : ℕ) → take 12 head ≡ head_numbers S →
-      take (class_fields * class_count cs) classes ≡ pack class_numbers (tab (class_for ν R gs cs) (class_count cs)) →
-      take (4 * r) rows ≡ pack row_numbers (class_rows R µ gs cs) → take (3 * e) edges ≡ pack edge_numbers (class_links R cs) →
-      pack put2 (numbers head classes c rows r edges e map n) ≡ summary_bytes S
-  unfolding summary_by
-  bytes_are head classes rows edges r e h l o q = parts_bytes S head classes c rows r edges e map n h (rw k.classes_are l) o q refl
+  module _ (ν i : ℕ) where
+    abbrev S : Summary
+    S = summary_by µ ν R gs cs i
+
+    -- the header's numbers from the counts
+    pub head_is : {head : List ℕ} {r e : ℕ} → r ≡ length (class_rows R µ gs cs) → e ≡ length (class_links R cs) →
+        head ≡ head_of i µ ν c g r e n → head ≡ head_numbers S
+    unfolding head_numbers summary_by
+    head_is hr he h =
+        let lc : c ≡ length (tab (class_for ν R gs cs) (class_count cs)) = k.classes_are ∙ sym (length_tab (class_for ν R gs cs) (class_count cs)) in
+        let lm : n ≡ length cs = k.register.items_are ∙ sym k.numbered.long in
+        cc (h, lc, lm, hr, he)
+
+    pub bytes_are : {head rows edges : List ℕ} (classes : List ℕ) → head ≡ head_numbers S →
+        take (class_fields * class_count cs) classes ≡ pack class_numbers (tab (class_for ν R gs cs) (class_count cs)) →
+        rows ≡ pack row_numbers (class_rows R µ gs cs) → edges ≡ pack edge_numbers (class_links R cs) →
+        pack put2 (numbers head (take (class_fields * c) classes) rows edges cs) ≡ summary_bytes S
+    unfolding summary_numbers summary_by
+    bytes_are classes h l o q = rw (h, k.classes_are, l, o, q) (numbers_bytes S)
 
 -- ---- from the levels to the summary
 

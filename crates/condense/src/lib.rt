@@ -11,10 +11,19 @@ ghost use Rattle.register.specs.Told.{OfRegister};
 ghost use Rattle.said.specs.Written.{Gives};
 ghost use Rattle.condense.specs.Classed.{Classed};
 
-use said::Wrote;
+use meaning::Refusal;
+use summary::{Counts, Parts};
 
 // "The classes of a summary are those of level i; its groups are those of level i − 1": 9, or its bytes.
-pub fn condense(reg: &[u8], n: usize, m: usize, i: u16, mu: u8, nu: u8, out: &mut [u8]) -> Wrote
+pub fn condense(
+    reg: &[u8],
+    n: usize,
+    m: usize,
+    i: u16,
+    mu: u8,
+    nu: u8,
+    out: &mut [u8],
+) -> Result<usize, Refusal>
     requires { OfRegister reg.now n m × (1 ≤ i) × (mu ≤ 7) }
     ensures { Gives result out.old out.new
         (into (length out.old) (summary_bytes (summary_of i mu nu (register_in reg.now)))) }
@@ -66,7 +75,7 @@ fn put_summary(
     starts: &[u16],
     words: &[u64],
     out: &mut [u8],
-) -> Wrote
+) -> Result<usize, Refusal>
     requires { Classed reg.now n m mu g c groups.now map.now starts.now words.now }
     ensures { Gives result out.old out.new
         (into (length out.old) (summary_bytes (summary_by mu nu (register_in reg.now) (take n groups.now) (take n map.now) i))) }
@@ -76,13 +85,19 @@ fn put_summary(
     let r = filed::row_numbers(n, map, starts, words, &mut rows);
     let mut edges = [0u16; 6144];
     let e = edges::class_links(reg, n, m, map, &mut edges);
-    let of = summary::Counts {
+    let of = Counts {
         classes: c as u16,
         groups: g as u16,
         rows: r as u16,
         edges: e as u16,
         items: n as u16,
     };
-    let head = summary::head(i, mu as u16, nu as u16, of);
-    summary::file(out, &head, &classes, c, &rows, r, &edges, e, map, n)
+    let parts = Parts {
+        head: summary::head(i, mu as u16, nu as u16, of),
+        classes: &classes[..summary::CLASS * c],
+        rows: &rows[..summary::ROW * r],
+        edges: &edges[..summary::EDGE * e],
+        map: &map[..n],
+    };
+    summary::file(out, parts)
 }
