@@ -46,16 +46,19 @@ key_made d cs a x w i o e f g h = rw (e, f, g, h)
 
 -- ---- the class list that the code reads
 
-module _ (cs : List ℕ) (n : ℕ) (c : OfClasses cs n) where
-  length_list : length (take n cs) ≡ n
-  length_list = length-take-le n cs c.long
+pub classes_cut : (cs : List ℕ) (n : ℕ) → OfClasses cs n → OfClasses (take n cs) n
+classes_cut cs n c =
+    let e : length (take n cs) ≡ n = length-take-le n cs c.long in record {
+      long = omega arith;
+      small = λ x h. rw (get_or-take n cs x 0 h) (c.small x h);
+    }
 
-  pub list_few : class_count (take n cs) ≤ 1024
-  list_few =
-      count_le (take n cs) 1024 (λ x h. let u : x < n = omega (arith, length_list) in omega (arith, get_or-take n cs x 0 u, c.small x u))
+module _ (cs : List ℕ) (n : ℕ) (c : OfClasses cs n) (long : length cs ≡ n) where
+  pub list_few : class_count cs ≤ 1024
+  list_few = count_le cs 1024 (λ x h. c.small x (omega arith))
 
-  pub list_below : (x : ℕ) → x < n → get_or (take n cs) x 0 < class_count (take n cs)
-  list_below x h = get_d_below (take n cs) x (omega (arith, length_list))
+  pub list_below : (x : ℕ) → x < n → get_or cs x 0 < class_count cs
+  list_below x h = get_d_below cs x (omega arith)
 
 -- ---- counting keys
 
@@ -82,14 +85,12 @@ module _ (b : List ℕ) (n m : ℕ) (o : OfRegister b n m) (cs : List ℕ) (c : 
 
   module _ (l q x : ℕ) (lab : l < 16) (grp : q < 1024) where
     key_leads : (d : Direction) (k : ℕ) → k < m →
-        eqb (key_of d cs (link_of (register_in b) k)) (x * 32768 + (way d l * 1024 + q)) ≡ leads d l (λ y. eqb (get_or (take n cs) y 0) q) x (link_of (register_in b) k)
+        eqb (key_of d cs (link_of (register_in b) k)) (x * 32768 + (way d l * 1024 + q)) ≡ leads d l (λ y. eqb (get_or cs y 0) q) x (link_of (register_in b) k)
     unfolding key_of leads
     key_leads d k h =
         let a = link_of (register_in b) k in
         let r = in_range_law d k h in
-        let t : get_or (take n cs) (far d a) 0 ≡ get_or cs (far d a) 0 = get_or-take n cs (far d a) 0 r.1 in
-        rw t
-        (bool_iff (eqb (near d a * 32768 + way d a.label * 1024 + get_or cs (far d a) 0) (x * 32768 + (way d l * 1024 + q)))
+        bool_iff (eqb (near d a * 32768 + way d a.label * 1024 + get_or cs (far d a) 0) (x * 32768 + (way d l * 1024 + q)))
         (eqb (near d a) x && eqb a.label l && eqb (get_or cs (far d a) 0) q)
         (λ e.
         let f = same_fields (near d a) x (way d a.label) (way d l) (get_or cs (far d a) 0) q (way_below d a.label r.0) (way_below d l lab) r.2 grp (eqb-true _ _ e) in
@@ -97,7 +98,7 @@ module _ (b : List ℕ) (n m : ℕ) (o : OfRegister b n m) (cs : List ℕ) (c : 
         (λ e.
         let f = and_inv (eqb (near d a) x && eqb a.label l) (eqb (get_or cs (far d a) 0) q) e in
         let g = and_inv (eqb (near d a) x) (eqb a.label l) f.0 in
-        eq-eqb _ _ (key_same (near d a) x d a.label l (get_or cs (far d a) 0) q (eqb-true _ _ g.0) (eqb-true _ _ g.1) (eqb-true _ _ f.1))))
+        eq-eqb _ _ (key_same (near d a) x d a.label l (get_or cs (far d a) 0) q (eqb-true _ _ g.0) (eqb-true _ _ g.1) (eqb-true _ _ f.1)))
       where
         key_same : (a x : ℕ) (d : Direction) (i l g q : ℕ) → a ≡ x → i ≡ l → g ≡ q → a * 32768 + way d i * 1024 + g ≡ x * 32768 + (way d l * 1024 + q)
         key_same a x d i l g q e f h = rw (e, f, h) (omega arith)
@@ -113,11 +114,11 @@ module _ (b : List ℕ) (n m : ℕ) (o : OfRegister b n m) (cs : List ℕ) (c : 
         way_apart d e l a.label s lab r.0 (sym f.1))
 
     part_own : (d : Direction) →
-        tally (λ k. eqb (key_of d cs (link_of (register_in b) k)) (x * 32768 + (way d l * 1024 + q))) m ≡ neighbours (register_in b) d l (λ y. eqb (get_or (take n cs) y 0) q) x
+        tally (λ k. eqb (key_of d cs (link_of (register_in b) k)) (x * 32768 + (way d l * 1024 + q))) m ≡ neighbours (register_in b) d l (λ y. eqb (get_or cs y 0) q) x
     part_own d =
         tally_same _ _ m (λ k h. key_leads d k h)
-        ∙ ap (tally (λ k. leads d l (λ y. eqb (get_or (take n cs) y 0) q) x (link_of (register_in b) k))) o.links_are
-        ∙ sym (neighbours_places (register_in b) d l (λ y. eqb (get_or (take n cs) y 0) q) x)
+        ∙ ap (tally (λ k. leads d l (λ y. eqb (get_or cs y 0) q) x (link_of (register_in b) k))) o.links_are
+        ∙ sym (neighbours_places (register_in b) d l (λ y. eqb (get_or cs y 0) q) x)
 
     part_other : (d e : Direction) → same_way d e ≡ false → tally (λ k. eqb (key_of e cs (link_of (register_in b) k)) (x * 32768 + (way d l * 1024 + q))) m ≡ 0
     part_other d e s = sum_zero _ m (λ k h. ap (λ (t : Bool). cond {A = ℕ} t 1 0) (key_other d e k s h))
@@ -138,13 +139,13 @@ module _ (b : List ℕ) (n m : ℕ) (o : OfRegister b n m) (cs : List ℕ) (c : 
           )
 
       pub often_neighbours : (d : Direction) →
-          often s (2 * m) (x * 32768 + (way d l * 1024 + q)) ≡ neighbours (register_in b) d l (λ y. eqb (get_or (take n cs) y 0) q) x
+          often s (2 * m) (x * 32768 + (way d l * 1024 + q)) ≡ neighbours (register_in b) d l (λ y. eqb (get_or cs y 0) q) x
       unfolding same_way
       often_neighbours Outgoing = omega (arith, two_parts (x * 32768 + (way Outgoing l * 1024 + q)), part_own Outgoing, part_other Outgoing Incoming refl)
       often_neighbours Incoming = omega (arith, two_parts (x * 32768 + (way Incoming l * 1024 + q)), part_own Incoming, part_other Incoming Outgoing refl)
 
   -- no neighbour is in a class that there is not
-  pub neighbours_past : (d : Direction) (l q x : ℕ) → class_count (take n cs) ≤ q → neighbours (register_in b) d l (λ y. eqb (get_or (take n cs) y 0) q) x ≡ 0
-  neighbours_past d l q x h =
-      neighbours_none (register_in b) (of_fine b n m o) d l x (λ y. eqb (get_or (take n cs) y 0) q)
-      (λ y u. ne_eqb (get_or (take n cs) y 0) q (λ e. omega (arith, list_below cs n c y (omega (arith, o.items_are)))))
+  pub neighbours_past : length cs ≡ n → (d : Direction) (l q x : ℕ) → class_count cs ≤ q → neighbours (register_in b) d l (λ y. eqb (get_or cs y 0) q) x ≡ 0
+  neighbours_past long d l q x h =
+      neighbours_none (register_in b) (of_fine b n m o) d l x (λ y. eqb (get_or cs y 0) q)
+      (λ y u. ne_eqb (get_or cs y 0) q (λ e. omega (arith, list_below cs n c long y (omega (arith, o.items_are)))))

@@ -3,8 +3,8 @@ use mathlib.Core.Path.{◌≡◌, refl, sym, ap, ◌∙◌}
 use mathlib.Core.List.{List, ◌++◌}
 use Prim.Native.Nat.{ℕ, ◌+◌, ◌*◌, ◌≤◌, ◌<◌}
 use native.Mathlib.Omega.{arith}
-use lib.ListN.{length, get_or, drop, take, length-take, take-append-drop}
-use lib.Seq.{take_at}
+use lib.ListN.{length, length-append, get_or, drop, take, length-take, take-append-drop}
+use lib.Seq.{take_at, get_or-append-add}
 use Rattle.meaning.specs.Count.{tab, join}
 use Rattle.meaning.specs.Register.{Register, link_of}
 use Rattle.meaning.specs.declared.Direction.TheVariants.{Outgoing, Incoming}
@@ -13,48 +13,57 @@ use Rattle.meaning.specs.Level.{class_count}
 use Rattle.meaning.specs.Summary.{no_row}
 use Rattle.meaning.specs.Condense.{rows_at, by}
 use Rattle.meaning.specs.RegisterFile.{register_in}
-use Rattle.theory.proofs.CountLaws.{length_tab, tab_same, join_same}
+use Rattle.theory.proofs.CountLaws.{length_tab, get_d_tab, tab_same, join_same}
 use Rattle.order.specs.Sorted.{sorted}
 use Rattle.order.proofs.Front.{tab_read}
 use Rattle.rows.specs.Rows.{rows_of, start_of}
 use Rattle.rows.proofs.Joined.{joined_next, joined_fits, joined_at}
 use Rattle.rows.proofs.Laws.{often_sorted}
-use Rattle.lists.specs.Writes.{Writes}
-use Rattle.surround.specs.Surroundings.{OfClasses, key_of, word_of, words, item_rows, item_start, RowsStand}
+use Rattle.surround.specs.Surroundings.{OfClasses, key_of, all_keys, word_of, words, item_rows, item_start, RowsStand}
 use Rattle.register.specs.Told.{OfRegister}
 use Rattle.surround.proofs.Words.{words_length, words_at, item_words, words_any}
 use Rattle.surround.proofs.Keys.{list_few, often_neighbours, neighbours_past}
 
 -- ---- the rows that the code writes
 
-module _ (b : List ℕ) (n m : ℕ) (o : OfRegister b n m) (cs : List ℕ) (c : OfClasses cs n) (µ : ℕ) where
+module _ (b : List ℕ) (n m : ℕ) (o : OfRegister b n m) (cs : List ℕ) (c : OfClasses cs n) (long : length cs ≡ n) (µ : ℕ) where
   abbrev R : Register
   R = register_in b
 
-  abbrev L : List ℕ
-  L = take n cs
+  out : (k : ℕ) → k < m → get_or (all_keys R cs m) k 0 ≡ key_of Outgoing cs (link_of R k)
+  out k h = tab_read (λ k. key_of Outgoing cs (link_of R k)) m k _ h
 
-  -- keys written both ways, then sorted
-  module _ (old one two s : List ℕ)
-      (w : Writes old one 0 m (λ k. key_of Outgoing cs (link_of (register_in b) k)))
-      (v : Writes one two m m (λ k. key_of Incoming cs (link_of (register_in b) k)))
-      (e : s ≡ sorted two (2 * m) ++ drop (2 * m) two) (long : 2 * m ≤ length old) where
-    sorted_rows : (x : ℕ) → rows_of µ s (2 * m) x ≡ item_rows R µ L x
+  in' : (k : ℕ) → k < m → get_or (all_keys R cs m) (m + k) 0 ≡ key_of Incoming cs (link_of R k)
+  in' k h =
+      let f : ℕ → ℕ = λ k. key_of Outgoing cs (link_of R k) in
+      let g : ℕ → ℕ = λ k. key_of Incoming cs (link_of R k) in
+      let e : m + k ≡ length (tab f m) + k = omega (arith, length_tab f m) in
+      ap (λ (i : ℕ). get_or (all_keys R cs m) i 0) e ∙ get_or-append-add (tab f m) (tab g m) k 0 ∙ get_d_tab g 0 m k h
+
+  all_size : 2 * m ≡ length (all_keys R cs m)
+  all_size =
+      let f : ℕ → ℕ = λ k. key_of Outgoing cs (link_of R k) in
+      let g : ℕ → ℕ = λ k. key_of Incoming cs (link_of R k) in
+      omega (arith, length-append (tab f m) (tab g m), length_tab f m, length_tab g m)
+
+  module _ (s : List ℕ) (k : ℕ) (k_is : k ≡ 2 * m) (e : s ≡ sorted (all_keys R cs m) (2 * m)) where
+    sorted_rows : (x : ℕ) → rows_of µ s k x ≡ item_rows R µ cs x
     unfolding item_rows
     sorted_rows x =
-        item_words µ s (2 * m) x R (by L) (class_count L) (list_few cs n c)
-        (λ d l q u g. often_sorted two s (2 * m) (omega (arith, w.long, v.long)) e (x * 32768 + (way d l * 1024 + q))
-        ∙ often_neighbours b n m o cs c l q x u g two (λ k h. let z : k ≡ 0 + k = omega arith in v.kept k h ∙ ap (λ (i : ℕ). get_or one i 0) z ∙ w.says k h) (λ k h. v.says k h) d)
-        (λ d l q u. neighbours_past b n m o cs c d l q x u)
+        item_words µ s k x R (by cs) (class_count cs) (list_few cs n c long)
+        (λ d l q u g.
+        rw k_is
+        (often_sorted (all_keys R cs m) s (2 * m) all_size (rw all_size at e) (x * 32768 + (way d l * 1024 + q)) ∙ often_neighbours b n m o cs c l q x u g (all_keys R cs m) out in' d))
+        (λ d l q u. neighbours_past b n m o cs c long d l q x u)
 
-    pub rows_written : (r : ℕ) (rows old' : List ℕ) → r ≡ start_of µ s (2 * m) n → rows ≡ join (rows_of µ s (2 * m)) n ++ drop r old' →
-        rows ≡ join (item_rows R µ L) n ++ drop (item_start R µ L n) old'
+    pub rows_written : (r : ℕ) (rows old' : List ℕ) → r ≡ start_of µ s k n → rows ≡ join (rows_of µ s k) n ++ drop r old' →
+        rows ≡ join (item_rows R µ cs) n ++ drop (item_start R µ cs n) old'
     unfolding start_of item_start
     rows_written r rows old' f g =
-        let j : join (rows_of µ s (2 * m)) n ≡ join (item_rows R µ L) n = join_same _ _ n (λ x h. sorted_rows x) in
+        let j : join (rows_of µ s k) n ≡ join (item_rows R µ cs) n = join_same _ _ n (λ x h. sorted_rows x) in
         g ∙ rw (f, j)
 
-    pub starts_written : tab (start_of µ s (2 * m)) (n + 1) ≡ tab (item_start R µ L) (n + 1)
+    pub starts_written : tab (start_of µ s k) (n + 1) ≡ tab (item_start R µ cs) (n + 1)
     unfolding start_of item_start
     starts_written = tab_same _ _ (n + 1) (λ x h. ap length (join_same _ _ x (λ y g. sorted_rows y)))
 

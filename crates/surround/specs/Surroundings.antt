@@ -1,9 +1,10 @@
 -- The keys of links, and the rows of items as words: what is around each item, by direction, label and class. Leans on meaning's Level and
 -- Condense.
-use Rattle.std.specs.Prelude.{ℕ, ◌+◌, ◌*◌, ◌≤◌, ◌<◌, ◌≡◌, List, [], ◌∷◌, get_or, length, take}
+use Rattle.std.specs.Prelude.{ℕ, ◌+◌, ◌*◌, ◌≤◌, ◌<◌, ◌≡◌, List, [], ◌∷◌, ◌++◌, get_or, length, take}
 use Rattle.meaning.specs.Count.{tab, join}
-use Rattle.meaning.specs.Register.{Link, Register, near, far}
+use Rattle.meaning.specs.Register.{Link, Register, near, far, link_of}
 use Rattle.meaning.specs.declared.Direction.{Direction}
+use Rattle.meaning.specs.declared.Direction.TheVariants.{Outgoing, Incoming}
 use Rattle.meaning.specs.WellFormed.{way}
 use Rattle.meaning.specs.Summary.{Row}
 use Rattle.meaning.specs.Level.{class_count}
@@ -17,6 +18,10 @@ pub record OfClasses (cs : List ℕ) (n : ℕ) : Type 0 where
 -- a link as it is seen that way, in one number: the item, the way with its label, and the class to which it leads
 unfoldable pub key_of : Direction → List ℕ → Link → ℕ
 key_of d cs a = near d a * 32768 + way d a.label * 1024 + get_or cs (far d a) 0
+
+-- the keys of m links, first as seen from their sources, then as seen from their targets
+abbrev pub all_keys : Register → List ℕ → ℕ → List ℕ
+all_keys R cs m = tab (λ k. key_of Outgoing cs (link_of R k)) m ++ tab (λ k. key_of Incoming cs (link_of R k)) m
 
 -- a row, but for its class, in one word
 unfoldable pub word_of : Row → ℕ

@@ -7,11 +7,14 @@ ghost use Rattle.meaning.specs.Count.{tab, join};
 ghost use Rattle.meaning.specs.Register.{link_of};
 ghost use Rattle.meaning.specs.WellFormed.{way as way_number};
 ghost use Rattle.meaning.specs.RegisterFile.{register_in};
-ghost use Rattle.register.specs.Told.{OfLink, OfRegister};
-ghost use Rattle.lists.specs.Writes.{Writes};
-ghost use Rattle.surround.specs.Surroundings.{OfClasses, key_of, item_rows as item_rows_word, item_start};
+ghost use Rattle.order.specs.Sorted.{sorted};
+ghost use Rattle.register.specs.Told.{OfRegister};
+ghost use Rattle.surround.specs.Surroundings.{OfClasses, key_of, all_keys, item_rows as item_rows_word, item_start};
 
 use meaning::Direction;
+use radix::Room;
+use register::Register;
+use rows::Rows;
 
 // "direction times 16 plus label (out 0, in 1)".
 fn way_number(way: Direction, label: u8) -> u64
@@ -25,36 +28,52 @@ fn way_number(way: Direction, label: u8) -> u64
 }
 
 // Link k as it is seen that way, in one number: the item, the way with its label, and the class to which it leads.
-fn key(reg: &[u8], n: usize, k: usize, cs: &[u16], way: Direction) -> u64
-    requires { OfLink reg.now n k × OfClasses cs.now n }
-    ensures { result ≡ key_of way cs.now (link_of (register_in reg.now) k) }
+fn key(reg: &Register, k: usize, cs: &[u16], way: Direction) -> u64
+    requires { (k < reg.now.links) × OfClasses cs.now reg.now.items }
+    ensures { result ≡ key_of way cs.now (link_of (register_in reg.now.bytes.now) k) }
 {
-    let near = register::near(reg, n, k, way).index() as u64;
-    let label = way_number(way, register::label(reg, n, k));
-    let class = cs[register::far(reg, n, k, way).index()] as u64;
+    let near = reg.near(k, way).index() as u64;
+    let label = way_number(way, reg.label(k));
+    let class = cs[reg.far(k, way).index()] as u64;
     near * 32768 + label * 1024 + class
 }
 
-// The keys of all links as seen that way, from a place on.
-fn put_keys(
-    reg: &[u8],
-    n: usize,
-    m: usize,
-    cs: &[u16],
-    way: Direction,
-    from: usize,
-    keys: &mut [u64],
-)
-    requires { OfRegister reg.now n m × OfClasses cs.now n × (from ≤ m) × (from + m ≤ length keys.old) }
-    ensures { Writes keys.old keys.new from m (λ k. key_of way cs.now (link_of (register_in reg.now) k)) }
+// The keys of all links as seen that way.
+fn put_keys(reg: &Register, cs: &[u16], way: Direction, keys: &mut [u64])
+    requires { OfClasses cs.now reg.now.items × (length keys.old ≡ reg.now.links) }
+    ensures { keys.new ≡ tab (λ k. key_of way cs.now (link_of (register_in reg.now.bytes.now) k)) reg.now.links }
 {
-    for k in 0..m {
-        keys[from + k] = key(reg, n, k, cs, way);
+    for k in 0..reg.links {
+        keys[k] = key(reg, k, cs, way);
     }
 }
 
-// The rows of all items against a class list: those of item x stand in rows from starts[x] on, and end where those of x + 1 start.
-// keys and other are room to work in.
+// The keys of all links both ways, in order.
+fn sort_keys(reg: &Register, cs: &[u16], keys: &mut [u64], other: &mut [u64])
+    requires { OfClasses cs.now reg.now.items × (length keys.old ≡ 2 * reg.now.links) × (2 * reg.now.links ≤ length other.old) }
+    ensures { keys.new ≡ sorted (all_keys (register_in reg.now.bytes.now) cs.now reg.now.links) (2 * reg.now.links) }
+{
+    let m = reg.links;
+    put_keys(reg, cs, Direction::Outgoing, &mut keys[..m]);
+    put_keys(reg, cs, Direction::Incoming, &mut keys[m..]);
+    radix::sort(keys, other);
+}
+
+// The rows of all items against a class list.
+pub fn put_item_rows(reg: &Register, mu: u8, cs: &[u16], rows: &mut Rows, room: Room)
+    requires { OfClasses cs.now reg.now.items × (length cs.now ≡ reg.now.items) × (mu ≤ 7) }
+    ensures { (rows.new.words ≡ join (item_rows_word (register_in reg.now.bytes.now) mu cs.now) reg.now.items
+        ++ drop (item_start (register_in reg.now.bytes.now) mu cs.now reg.now.items) rows.old.words)
+        × (rows.new.starts ≡ tab (item_start (register_in reg.now.bytes.now) mu cs.now) (reg.now.items + 1)
+        ++ drop (reg.now.items + 1) rows.old.starts) }
+{
+    let Room { keys, other } = room;
+    let keys = &mut keys[..2 * reg.links];
+    sort_keys(reg, cs, keys, other);
+    rows::put_rows(keys, reg.items, mu, &mut rows.words, &mut rows.starts);
+}
+
+// The same of bytes that a caller knows to be an accepted register of n items and m links, and with the parts of the records one by one.
 pub fn item_rows(
     reg: &[u8],
     n: usize,
@@ -72,8 +91,12 @@ pub fn item_rows(
         ++ drop (item_start (register_in reg.now) mu (take n cs.now) n) rows.old)
         × (starts.new ≡ tab (item_start (register_in reg.now) mu (take n cs.now)) (n + 1) ++ drop (n + 1) starts.old) }
 {
-    put_keys(reg, n, m, cs, Direction::Outgoing, 0, keys);
-    put_keys(reg, n, m, cs, Direction::Incoming, m, keys);
-    radix::sort(keys, 2 * m, other);
-    rows::put_rows(keys, 2 * m, n, mu, rows, starts);
+    let reg = Register {
+        bytes: reg,
+        items: n,
+        links: m,
+    };
+    let keys = &mut keys[..2 * m];
+    sort_keys(&reg, &cs[..n], keys, other);
+    rows::put_rows(keys, n, mu, rows, starts);
 }
