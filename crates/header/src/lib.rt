@@ -2,22 +2,22 @@
 // for the file's numbers, on summary for the sizes of its records.
 #![tactic(auto)]
 
-ghost use Rattle.std.specs.Prelude.{◌≡◌, true, false, length, MatchOption};
+ghost use Rattle.std.specs.Prelude.{◌≡◌, true, false, MatchOption};
 ghost use Rattle.meaning.specs.WellFormed.{sizes};
 ghost use Rattle.meaning.specs.SummaryFile as file;
 ghost use Rattle.meaning.specs.SummaryFile.{summary_in};
-ghost use Rattle.header.specs.Keyed.{Keyed};
+ghost use Rattle.header.specs.Keyed.{row_keys};
 
 use reader::Summary;
+use seek::Ascending;
 
 // A summary that is well formed, and the keys of its rows: who judged it has left them for who reads on.
 #[derive(Clone, Copy)]
 pub struct WellFormed<'a> {
     pub summary: Summary<'a>,
-    pub keys: &'a [u64],
+    pub keys: Ascending<'a>,
     ghost well: { file.well_formed_file summary.bytes.now ≡ true },
-    ghost long: { length keys.now ≡ 4096 },
-    ghost keyed: { Keyed true (summary_in summary.bytes.now) keys.now },
+    ghost keyed: { keys.keys.now ≡ row_keys (summary_in summary.bytes.now) },
 }
 
 // The bytes as a summary, if they can be one.

@@ -15,6 +15,7 @@ ghost use Rattle.matching.specs.Keys.{asked_key as asked_key_word};
 use meaning::Direction;
 use names::Class;
 use reader::Summary;
+use seek::Ascending;
 
 // A summary whose numbers are in range and whose rows ascend, and the keys of its rows.
 #[derive(Clone, Copy)]
@@ -50,7 +51,10 @@ impl Ordered<'_> {
         let e = self.summary.links();
         self.put_asked(Direction::Outgoing, asked, 0);
         self.put_asked(Direction::Incoming, asked, e);
-        seek::same_members(self.keys, self.summary.rows(), asked, 2 * e)
+        let rows = Ascending {
+            keys: &self.keys[..self.summary.rows()],
+        };
+        rows.same_members(&asked[..2 * e])
     }
 
     // The keys of the rows that the class links ask for, seen that way, from a place on.

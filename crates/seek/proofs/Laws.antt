@@ -11,7 +11,7 @@ use native.Mathlib.Numerals.{add-one}
 use borrow.Author.Tests.{lt-ltb, ltb-true, ltb-false, eq-eqb, ne_eqb, eqb-true}
 use lib.Dec.{eqb, ltb}
 use lib.ListN.{length, get_or, take, set, length-set}
-use lib.Seq.{take-suc, take-length, get_or-set_same, get_or-set_other}
+use lib.Seq.{take-suc, take-length, length-take-le, get_or-take, get_or-set_same, get_or-set_other}
 use Rattle.meaning.specs.Count.{all, any, each, ascends}
 use Rattle.theory.proofs.CountLaws.{by_bool, no, and_inv, and_yes, or_inv, bool_iff, eqb_sym, by_eq, all_yes, all_no, all_at, any_append, any_some, any_at, each_tab, every_and, each_every, each_yes, ascends_above, ascends_rest, ascends_at}
 use Rattle.theory.proofs.ShapeLaws.{any_place}
@@ -291,3 +291,11 @@ sub_same (k ∷ ks) (n ∷ ns) u w e l =
     let head : n ≡ k =
     ⊎_elim (eqb-true n k) (λ t. absurd (first_only n ns w (rw (← rest) at t))) (or_inv (eqb n k) (any (eqb n) ks) p.0) in
     cc
+
+-- marks that stand at the front of a longer list
+pub marked_front : (marked : List Bool) (n : ℕ) → n ≤ length marked → all (λ i. get_or (take n marked) i false) (length (take n marked)) ≡ all (λ i. get_or marked i false) n
+marked_front marked n h =
+    rw (length-take-le n marked h)
+    (bool_iff _ _
+    (λ t. all_yes _ n (λ i k. sym (get_or-take n marked i false k) ∙ all_at _ n i k t))
+    (λ t. all_yes _ n (λ i k. get_or-take n marked i false k ∙ all_at _ n i k t)))

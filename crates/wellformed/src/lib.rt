@@ -15,6 +15,7 @@ use matching::Ordered;
 use meaning::Refusal;
 use names::Class;
 use reader::Summary;
+use seek::Ascending;
 
 // "A summary is well formed when ..". If it is, the keys of its rows are left in `keys` for who reads on.
 #[tactic(auto, using(crate::proofs::Laws::file))]
@@ -26,6 +27,9 @@ pub fn judge<'a>(s: &'a [u8], keys: &'a mut [u64]) -> Result<WellFormed<'a>, Ref
     if let Some(summary) = header::read(s)
         && fine(&summary, keys)
     {
+        let keys = Ascending {
+            keys: &keys[..summary.rows()],
+        };
         return Ok(WellFormed { summary, keys });
     }
     Err(Refusal::Summary)
@@ -66,7 +70,7 @@ fn classes_fine(s: &Summary) -> bool
         }
         used[s.group(class).index()] = true;
     }
-    seek::all_marked(&used, g)
+    seek::all_marked(&used[..g])
 }
 
 // "rows .. ascend as stated", and their numbers are in range: `least` is the least key that the next may have.

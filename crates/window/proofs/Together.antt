@@ -15,14 +15,13 @@ use Rattle.meaning.specs.declared.Direction.{Direction}
 use Rattle.meaning.specs.Summary.{Row, Summary, no_row, row_of, row_for, counted}
 use Rattle.meaning.specs.WellFormed.{way, row_key, well_formed}
 use Rattle.meaning.specs.SummaryFile.{summary_in, well_formed_file}
-use Rattle.theory.proofs.CountLaws.{by_bool, and_inv, and_yes, get_d_tab, sum_same, sum_window, total_places}
+use Rattle.theory.proofs.CountLaws.{by_bool, and_inv, and_yes, get_d_tab, length_tab, sum_same, sum_window, total_places}
 use Rattle.theory.proofs.ShapeLaws.{well_parts, same_direction, own_direction}
 use Rattle.theory.proofs.OneLaws.{order_parts, way_tells, way_small}
 use Rattle.seek.specs.Keys.{Stands}
-use Rattle.header.specs.Keyed.{row_keys, Keyed}
+use Rattle.header.specs.Keyed.{row_keys}
 use Rattle.header.proofs.File.{well_file, sized_file, groups_file}
 use Rattle.matching.proofs.Match.{row_at}
-use Rattle.matching.proofs.Laws.{keyed_rises}
 use Rattle.window.specs.Own.{Own}
 
 -- a row's class and way side by side, which its key begins with
@@ -46,36 +45,34 @@ module _ (k : ℕ) (d : Direction) (l : ℕ) (label : l < 16) (r : Row) where
       let w = way_tells r.direction d r.label l low label same in
       and_yes (and_yes (eq-eqb r.class k (omega arith)) (ap (λ (e : Direction). same_way e d) w.0 ∙ own_direction d)) (eq-eqb r.label l w.1)
 
-module _ (s keys : List ℕ) (file : well_formed_file s ≡ true) (long : length keys ≡ 4096) (kept : Keyed true (summary_in s) keys) (n : ℕ) (rows : n ≡ length (summary_in s).rows) where
+module _ (s keys : List ℕ) (file : well_formed_file s ≡ true) (kept : keys ≡ row_keys (summary_in s)) where
   abbrev S : Summary
   S = summary_in s
+
+  abbrev n : ℕ
+  n = length S.rows
 
   well : well_formed S ≡ true
   well = (well_file s file).1
 
-  -- what a search asks
-  pub searchable : (n ≤ length keys) × (ascends (λ k. k) (take n keys) ≡ true)
-  searchable = (omega (arith, rows, (sized_file s file).few_rows), keyed_rises S n keys rows kept (order_parts S (well_parts S well).3).0)
-
-  keys_long : length (take n keys) ≡ n
-  keys_long = length-take-le n keys searchable.0
-
-  key_at_law : (i : ℕ) → i < n → get_or (take n keys) i 0 ≡ row_key (row_of S i)
+  keys_long : length keys ≡ n
   unfolding row_keys
-  key_at_law i h =
-      let a : take n keys ≡ row_keys S = ap (λ (n : ℕ). take n keys) rows ∙ kept.kept refl in
-      rw a (get_d_tab (λ j. row_key (row_of S j)) 0 (length S.rows) i (omega (arith, rows)))
+  keys_long = ap length kept ∙ length_tab (λ j. row_key (row_of S j)) n
+
+  key_at_law : (i : ℕ) → i < n → get_or keys i 0 ≡ row_key (row_of S i)
+  unfolding row_keys
+  key_at_law i h = rw kept (get_d_tab (λ j. row_key (row_of S j)) 0 n i h)
 
   -- it ends in a group
-  key_parts : (i : ℕ) → i < n → (begins (row_of S i) * 65536 ≤ get_or (take n keys) i 0) × (get_or (take n keys) i 0 < begins (row_of S i) * 65536 + 65536)
+  key_parts : (i : ℕ) → i < n → (begins (row_of S i) * 65536 ≤ get_or keys i 0) × (get_or keys i 0 < begins (row_of S i) * 65536 + 65536)
   unfolding row_key begins
   key_parts i h =
       let e = key_at_law i h in
-      let f = row_at S (well_parts S well).2 i (omega (arith, rows)) in
+      let f = row_at S (well_parts S well).2 i h in
       (omega (arith, e), omega (arith, e, f.2, groups_file s file))
 
   module _ (k : ℕ) (d : Direction) (l : ℕ) (label : l < 16) (x low high : ℕ) (begin : x ≡ k * 65536 + way d l)
-      (a : Stands (take n keys) (x * 65536) low) (b : Stands (take n keys) ((x + 1) * 65536) high) where
+      (a : Stands keys (x * 65536) low) (b : Stands keys ((x + 1) * 65536) high) where
     other : (i : ℕ) → (begins (row_of S i) ≡ x → ⊥) → row_for k d l (row_of S i) ≡ false
     other i h = by_bool (row_for k d l (row_of S i)) (λ t. absurd (h (begins_own k d l label (row_of S i) t ∙ sym begin))) (λ t. t)
 
@@ -84,13 +81,13 @@ module _ (s keys : List ℕ) (file : well_formed_file s ≡ true) (long : length
       rises = by_bool (ltb high low)
           (λ t. let h = ltb-true high low t in absurd (omega (arith, a.before high h, b.behind high (omega arith) (omega (arith, a.within)))))
           (λ t. ltb-false high low t);
-      ends = omega (arith, b.within, keys_long, rows);
+      ends = omega (arith, b.within, keys_long);
       own = λ i u v.
           let h : i < n = omega (arith, b.within, keys_long) in
-          let f = row_at S (well_parts S well).2 i (omega (arith, rows)) in
+          let f = row_at S (well_parts S well).2 i h in
           own_begins k d l label (row_of S i) f.1 (omega (arith, a.behind i u (omega (arith, keys_long)), b.before i v, key_parts i h, begin));
       before = λ i u. other i (λ e. omega (arith, a.before i u, key_parts i (omega (arith, a.within, keys_long))));
-      behind = λ i u v. other i (λ e. omega (arith, b.behind i u (omega (arith, keys_long, rows)), key_parts i (omega (arith, rows))));
+      behind = λ i u v. other i (λ e. omega (arith, b.behind i u (omega (arith, keys_long)), key_parts i v));
     }
 
 -- so a sum over the class's rows needs no others

@@ -58,9 +58,8 @@ pub fn rows_of(s: &WellFormed, class: Class, direction: Direction, label: u8) ->
     requires { label < 16 }
     ensures { Own (summary_in s.now.summary.bytes.now) class.0 direction label result.low result.high }
 {
-    let r = s.summary.rows();
     let begin = class.0 as u64 * 65536 + way(direction, label) as u64;
-    let low = seek::find(s.keys, r, begin * 65536);
-    let high = seek::find(s.keys, r, (begin + 1) * 65536);
+    let low = s.keys.find(begin * 65536);
+    let high = s.keys.find((begin + 1) * 65536);
     Rows { low, high }
 }

@@ -6,6 +6,7 @@ use lib.ListN.{length-set, length-replicate}
 use borrow.Author.Count.{below_more}
 use Rattle.meaning.specs.SummaryFile.{summary_in}
 use Rattle.theory.proofs.ShapeLaws.{class_group}
+use Rattle.seek.proofs.Laws.{marked_front}
 use Rattle.wellformed.proofs.Loops.{fresh_marked, one_marked, classes_by}
 use Rattle.wellformed.proofs.classes_fine.Goals as goal
 
@@ -25,6 +26,5 @@ loop-k-preserved c =
 pub returns : goal.returns
 returns c =
     let l = c.loop-k.invariant in
-    c.all_marked.ensures
-    ∙ classes_by (summary_in c.args.s.now.bytes.now) _ _ _
-    c.groups-g.ensures (omega arith) (omega arith) l.fine l.marked
+    let groups = classes_by (summary_in c.args.s.now.bytes.now) _ _ _ c.groups-g.ensures (omega arith) (omega arith) l.fine l.marked in
+    c.all_marked.ensures ∙ marked_front c.loop-k.used c.groups-g.result (omega (arith, l.long)) ∙ groups

@@ -4,14 +4,8 @@ use mathlib.Core.Path.{◌∙◌}
 use Rattle.matching.proofs.Laws.{match_by, keyed_rises}
 use Rattle.matching.proofs.Ordered.matched.Goals as goal
 
-pub same_members-requires : goal.same_members-requires
-same_members-requires c =
-    let s = c.args.self.now in (
-      omega arith,
-      omega arith,
-      omega arith,
-      keyed_rises _ _ _ c.rows.ensures.0 s.keyed s.rising,
-    )
+pub invariant_of-rows : goal.invariant_of-rows
+invariant_of-rows c = let s = c.args.self.now in record { ascend = keyed_rises _ _ _ c.rows.ensures.0 s.keyed s.rising }
 
 pub returns : goal.returns
 returns c =
