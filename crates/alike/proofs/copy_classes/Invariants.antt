@@ -1,9 +1,8 @@
--- The front is the source's, the rest as it was.
+-- What was passed is copied.
 use mathlib.Core.Path.{◌≡◌}
-use mathlib.Core.List.{◌++◌}
-use Prim.Native.Nat.{◌-◌, ◌≤◌}
-use lib.ListN.{length, take, drop}
+use Prim.Native.Nat.{ℕ, ◌<◌}
+use lib.ListN.{get_or}
 use Rattle.alike.proofs.copy_classes.Given as goal
 
 abbrev pub invariant-loop-x : goal.invariant-loop-x
-invariant-loop-x l = (l.x ≤ l.n) × (length l.to ≡ length l.initial.to) × (l.to ≡ take l.x l.from ++ drop l.x l.initial.to)
+invariant-loop-x l = (y : ℕ) → y < l.x → get_or l.to y 0 ≡ get_or l.from y 0

@@ -1,39 +1,39 @@
--- Two calls: level 0, then the steps.
+-- After j steps upper has the list of level j, and lower that of the level before (`Going`).
+use Rattle.alike.proofs.ByLevel.{going_next, ended, of_level}
 use native.Mathlib.Omega.{arith}
+use mathlib.Core.Path.{◌∙◌}
 use Rattle.meaning.specs.RegisterFile.{register_in}
-use Rattle.register.proofs.Laws.{limits}
-use Rattle.alike.proofs.ByLevel.{take_level, reached_from}
+use Rattle.surround.proofs.Keys.{of_fine}
 use Rattle.alike.proofs.levels.Goals as goal
 
-pub by_marks-marked-requires : goal.by_marks-marked-requires
-by_marks-marked-requires c =
-    let o = c.requires.0 in
-    let few = limits _ _ _ o in
-    (record { fine = o.fine; items_are = o.items_are }, omega (arith, c.requires), omega (arith, few), omega (arith, few))
-
-pub refine-requires : goal.refine-requires
-refine-requires c =
-    let a = c.args in
-    let o = c.requires.0 in
-    let few = limits a.reg.now a.n a.m o in
-    let k = c.by_marks-marked.ensures a.mu in (
-      o,
-      omega (arith, c.requires),
-      omega (arith, c.requires),
-      omega (arith, c.requires),
-      omega (arith, c.requires),
-      record {
-        for_rows = omega (arith, c.requires);
-        for_starts = omega (arith, c.requires);
-        for_keys = (omega (arith, few), omega (arith, few));
-        for_other = (omega (arith, few), omega (arith, few));
-      },
-      take_level (register_in a.reg.now) a.mu a.n o.items_are 0 _ _ k.1,
-      k.0,
+pub step-classes-requires : goal.step-classes-requires
+step-classes-requires c =
+    let reg = c.args.reg.now in
+    let l = c.loop-j in (
+      of_level (register_in reg.bytes.now) c.args.mu reg.items reg.accepted.items_are l.j _ reg.few_items (c.copy_classes.ensures ∙ l.invariant.upper_is),
+      omega arith,
+      omega arith,
+      omega arith,
     )
 
-pub returns : goal.returns
-returns c =
-    let a = c.args in
-    let k = c.by_marks-marked.ensures a.mu in
-    reached_from (register_in a.reg.now) a.mu a.n c.requires.0.items_are a.i _ _ _ _ _ _ _ _ _ k.1 c.refine.ensures
+pub loop-j-preserved : goal.loop-j-preserved
+loop-j-preserved c =
+    let reg = c.args.reg.now in
+    let l = c.loop-j in
+    let o = reg.accepted in
+    let r = c.step-classes.ensures in
+    going_next (register_in reg.bytes.now) c.args.mu reg.items o.items_are (of_fine reg.bytes.now reg.items reg.links o) l.j
+    l.lower l.upper l.groups l.classes l.rows.starts l.rows.words l.invariant _ _ _ _ _ c.copy_classes.ensures r.0 r.1 r.2
+
+pub returns-then-same_classes : goal.returns-then-same_classes
+returns-then-same_classes c =
+    let reg = c.args.reg.now in
+    let l = c.loop-j in
+    let o = reg.accepted in
+    let fine = of_fine reg.bytes.now reg.items reg.links o in
+    let R = register_in reg.bytes.now in
+    let r = c.step-classes.ensures in
+    let g =
+    going_next R c.args.mu reg.items o.items_are fine l.j
+    l.lower l.upper l.groups l.classes l.rows.starts l.rows.words l.invariant _ _ _ _ _ c.copy_classes.ensures r.0 r.1 r.2 in
+    ended R c.args.mu reg.items o.items_are fine l.j c.args.i _ _ _ _ _ _ c.loop-j-test.true (c.same_classes.ensures c.if-same_classes.true) g

@@ -1,8 +1,8 @@
--- The first x items have the same classes.
+-- What was passed is the same in both.
 use mathlib.Core.Path.{◌≡◌}
-use Prim.Native.Nat.{◌-◌, ◌≤◌}
-use lib.ListN.{take}
+use Prim.Native.Nat.{ℕ, ◌<◌}
+use lib.ListN.{get_or}
 use Rattle.alike.proofs.same_classes.Given as goal
 
 abbrev pub invariant-loop-x : goal.invariant-loop-x
-invariant-loop-x l = (l.x ≤ l.n) × (take l.x l.lower ≡ take l.x l.upper)
+invariant-loop-x l = (y : ℕ) → y < l.x → get_or l.lower y 0 ≡ get_or l.upper y 0

@@ -1,42 +1,31 @@
 -- Two calls; the argument is `step_numbers`.
 use native.Mathlib.Omega.{arith}
-use mathlib.Core.Path.{ap, ◌∙◌}
-use mathlib.Core.List.{List, ◌++◌}
-use Prim.Native.Nat.{ℕ}
-use lib.ListN.{drop, take}
-use lib.Seq.{get_or-take}
+use mathlib.Core.Path.{◌≡◌, refl, ap, ◌∙◌}
+use lib.ListN.{length}
 use Rattle.meaning.specs.Level.{class_count}
 use Rattle.meaning.specs.RegisterFile.{register_in}
-use Rattle.register.proofs.Laws.{limits}
 use Rattle.surround.proofs.Keys.{list_few}
 use Rattle.surround.proofs.Laws.{rows_stand}
 use Rattle.alike.proofs.Laws.{rows_laid, step_numbers}
 use Rattle.alike.proofs.step.Goals as goal
 
-pub number_by_signature-requires : goal.number_by_signature-requires
-number_by_signature-requires c =
+pub invariant_of-signatures : goal.invariant_of-signatures
+invariant_of-signatures c =
     let a = c.args in
-    let few = limits a.reg.now a.n a.m c.requires.0 in
-    let r = c.item_rows.ensures in
-    let room = c.requires.4 in (
-      rows_laid (register_in a.reg.now) a.mu (take a.n a.cs.now) a.n _ _ _ _ r.1 r.0 a.cs.now few.0 c.requires.1.long
-          (omega (arith, room.for_starts)),
-      omega (arith, room.for_keys),
-      omega (arith, room.for_other),
-      omega (arith, c.requires),
-    )
+    let reg = a.reg.now in
+    let cs = a.cs.now in
+    let r = c.put_item_rows.ensures in
+    let e : length cs ≡ reg.items = c.requires.1 in
+    record { laid = rw e (rows_laid (register_in reg.bytes.now) a.mu cs reg.items _ _ _ _ r.1 r.0 cs reg.few_items (omega arith) (omega (arith, c.put_item_rows.array_long2, reg.few_items))) }
 
 pub returns : goal.returns
 returns c =
     let a = c.args in
-    let R = register_in a.reg.now in
-    let cs = take a.n a.cs.now in
-    let r = c.item_rows.ensures in
-    let k = c.number_by_signature.ensures in
-    let e =
-    step_numbers R a.mu cs a.n _ _ _ _ r.1 r.0 (omega (arith, c.requires)) (list_few a.cs.now a.n c.requires.1) a.cs.now
-    (λ x h. get_or-take a.n a.cs.now x 0 h) in (
-      k.0 ∙ ap class_count e,
-      k.1 ∙ ap (λ (l : List ℕ). l ++ drop a.n a.out.now) e,
-      rows_stand R a.mu cs a.n _ _ _ _ r.1 r.0,
-    )
+    let reg = a.reg.now in
+    let R = register_in reg.bytes.now in
+    let cs = a.cs.now in
+    let r = c.put_item_rows.ensures in
+    let long : length cs ≡ reg.items = c.requires.1 in
+    let k = rw long at c.number.ensures in
+    let e = step_numbers R a.mu cs reg.items _ _ _ _ r.1 r.0 (omega (arith, c.requires)) (list_few cs reg.items c.requires.0 long) cs (λ x h. refl) in
+    (k.0 ∙ ap class_count e, k.1 ∙ e, rows_stand R a.mu cs reg.items _ _ _ _ r.1 r.0)
