@@ -2,7 +2,6 @@
 -- the tree that stands at an entry, and on nearby's of the links of an item.
 use mathlib.Core.Path.{◌≡◌, refl, sym, ap, ◌∙◌}
 use mathlib.Core.Bool.{Bool, true, false, cond, ◌&&◌}
-use mathlib.Core.Logic.{◌⊎◌, ⊎_elim}
 use mathlib.Core.List.{List}
 use mathlib.Core.Option.{some}
 use Prim.Native.Nat.{ℕ, ◌+◌, ◌-◌, ◌≤◌, ◌<◌}
@@ -24,12 +23,10 @@ use Rattle.question.proofs.Laws.{parsed_least}
 use Rattle.question.proofs.Steps.{Two}
 use Rattle.memo.specs.Kept.{Says, decides}
 use Rattle.memo.proofs.Laws.{Truth, says_second}
-use Rattle.register.specs.Told.{OfRegister}
-use Rattle.register.proofs.Laws.{limits}
 use Rattle.nearby.specs.Nearby.{Last}
 use Rattle.nearby.proofs.Laws.{count_last, count_own, count_all}
 use Rattle.descent.specs.declared.Unsaid.{Unsaid}
-use Rattle.descent.specs.Around.{reaching, leading, Tells}
+use Rattle.descent.specs.Tells.{reaching, leading, Tells}
 
 -- ---- whether an entry holds, by its kind
 
@@ -86,20 +83,9 @@ module _ (q : List ℕ) (i : ℕ) (R : Register) (d : Direction) (l x : ℕ) whe
       let all : met + 0 ≡ neighbours R d l (holds R t) x = rw e at f t k u in
       sym (lt-leb n (neighbours R d l (holds R t) x) (omega (arith, all)))
 
--- the link before place p is the item's, unless p is 0
-abbrev pub Own : Register → Direction → ℕ → ℕ → Type 0
-Own R d x p = (p ≡ 0) ⊎ (near d (link_of R (p - 1)) ≡ x)
-
-pub own_link : (R : Register) (d : Direction) (x p : ℕ) → Own R d x p → 0 < p → near d (link_of R (p - 1)) ≡ x
-own_link R d x p s h = ⊎_elim (λ e. absurd (omega (arith, e))) (λ e. e) s
-
 pub cond_most : (b : Bool) → cond {A = ℕ} b 1 0 ≤ 1
 cond_most true = omega arith
 cond_most false = omega arith
-
--- "n ≤ 1,024"
-pub item_few : (b : List ℕ) (n m y : ℕ) → OfRegister b n m → y < n → y < 1024
-item_few b n m y r h = omega (arith, (limits b n m r).0)
 
 -- ---- one link
 

@@ -1,1 +1,1 @@
-pub mod Around
+pub mod Tells

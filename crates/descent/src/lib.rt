@@ -2,16 +2,18 @@
 // item. Leans on entry and question for what is asked, on nearby for an item's links and on memo for what was said before.
 #![tactic(auto)]
 
-ghost use Rattle.std.specs.Prelude.{◌≡◌, ◌+◌, ◌≤◌, ◌<◌, cond, length};
+ghost use Rattle.std.specs.Prelude.{◌≡◌, ◌+◌, ◌≤◌, ◌<◌, cond, length, get_or};
 ghost use Rattle.meaning.specs.Question as meant;
 ghost use Rattle.meaning.specs.RegisterFile.{register_in};
-ghost use Rattle.register.specs.Told.{OfRegister};
 ghost use Rattle.memo.specs.Kept.{Remembers};
+ghost use Rattle.memo.specs.Kept as kept;
 ghost use Rattle.nearby.specs.Nearby.{Outs, Ins};
-ghost use Rattle.descent.specs.Around.{Around, Tells, reaching, leading, Cleared};
+ghost use Rattle.descent.specs.Tells.{register_of, Tells, reaching, leading, Cleared};
 
 use meaning::{Direction, Kind, Refusal};
 use names::Item;
+use nearby::Links;
+use register::{Along, Register};
 
 // So many operands are asked one by one; a question that needs more is better asked at all items at once.
 const MOST_STEPS: u16 = 4096;
@@ -23,72 +25,103 @@ pub enum Unsaid {
     Refused(Refusal),
 }
 
+// What is asked, and of what.
+#[derive(Clone, Copy)]
+struct Asked<'q, 'r> {
+    question: &'q [u8],
+    links: Links<'r>,
+}
+
+// What operands were found to say, and how many may yet be asked.
+#[derive(Drop)]
+struct Memory<'a> {
+    known: &'a mut [u8],
+    steps: u16,
+}
+
+impl Memory<'_> {
+    fn recalled(&self, slot: usize) -> Option<bool>
+        ensures { result ≡ kept.recalled (get_or self.now.known.now slot 0) }
+    {
+        memo::recalled(self.known, slot)
+    }
+}
+
 // Whether the question, which has that depth, holds at the item, if that is soon said. Where no at-least stands inside another, nothing is
 // worth keeping.
-pub fn ask(reg: &[u8], n: usize, m: usize, q: &[u8], depth: usize, x: Item) -> Result<bool, Unsaid>
-    requires { OfRegister reg.now n m × (x.0 < n) }
-    ensures { Tells q.now 0 (λ t. meant.holds (register_in reg.now) t x.0) result }
+pub fn ask(reg: &Register, q: &[u8], depth: usize, x: Item) -> Result<bool, Unsaid>
+    requires { x.0 < reg.now.items }
+    ensures { Tells q.now 0 (λ t. meant.holds (register_in reg.now.bytes.now) t x.0) result }
 {
     if depth < 2 {
-        let mut nothing = [0u8; 1];
-        let mut steps = MOST_STEPS;
-        let none = [0u16; 1];
-        return holds(q, 0, reg, n, m, &none, &none, &mut nothing, &mut steps, x);
+        let links = Links {
+            register: *reg,
+            outs: &[],
+            ins: &[],
+        };
+        let asked = Asked { question: q, links };
+        return ask_kept(&asked, &mut [], x);
     }
     let Ok(incoming) = asks_incoming(q) else {
         return Err(Unsaid::Refused(Refusal::Question));
     };
     let mut outs = [0u16; 1024];
     let mut ins = [0u16; 3072];
-    let long = put_outs(reg, n, m, q, &mut outs);
-    let wide = put_ins(reg, n, m, incoming, &mut ins);
-    ask_deep(reg, n, m, q, &outs[0..long], &ins[0..wide], x)
+    let links = Links {
+        register: *reg,
+        outs: outs_made(reg, q, &mut outs),
+        ins: ins_made(reg, incoming, &mut ins),
+    };
+    ask_deep(&Asked { question: q, links }, x)
 }
 
 // A question of 16 entries needs less room for what is kept, which is quicker cleared.
-fn ask_deep(
-    reg: &[u8],
-    n: usize,
-    m: usize,
-    q: &[u8],
-    outs: &[u16],
-    ins: &[u16],
-    x: Item,
-) -> Result<bool, Unsaid>
-    requires { Around reg.now n m outs.now ins.now × (x.0 < n) }
-    ensures { Tells q.now 0 (λ t. meant.holds (register_in reg.now) t x.0) result }
+fn ask_deep(asked: &Asked, x: Item) -> Result<bool, Unsaid>
+    requires { x.0 < asked.now.links.register.items }
+    ensures { Tells asked.now.question.now 0 (λ t. meant.holds (register_of asked.now) t x.0) result }
 {
-    let mut steps = MOST_STEPS;
-    if q.len() <= 64 {
+    if asked.question.len() <= 64 {
         let mut little = [0u8; 16384];
-        return holds(q, 0, reg, n, m, outs, ins, &mut little, &mut steps, x);
+        return ask_kept(asked, &mut little, x);
     }
     let mut known = [0u8; 65536];
-    holds(q, 0, reg, n, m, outs, ins, &mut known, &mut steps, x)
+    ask_kept(asked, &mut known, x)
 }
 
-// Where each item's outgoing links end, made where a question is so long that it pays; how much of it was made.
-fn put_outs(reg: &[u8], n: usize, m: usize, q: &[u8], outs: &mut [u16]) -> usize
-    requires { OfRegister reg.now n m × (length outs.old ≡ 1024) × Cleared outs.old }
-    ensures { (result ≤ 1024) × (length outs.new ≡ 1024) × (result ≡ 1024 → Outs (register_in reg.now) outs.new) }
+// From entry 0, with nothing known yet.
+fn ask_kept(asked: &Asked, known: &mut [u8], x: Item) -> Result<bool, Unsaid>
+    requires { (x.0 < asked.now.links.register.items) × (length known.old ≤ 65536) × Cleared known.old }
+    ensures { Tells asked.now.question.now 0 (λ t. meant.holds (register_of asked.now) t x.0) result }
+{
+    let mut memory = Memory {
+        known,
+        steps: MOST_STEPS,
+    };
+    holds(asked, 0, &mut memory, x)
+}
+
+// Where each item's outgoing links end, made where a question is so long that it pays.
+fn outs_made<'a>(reg: &Register, q: &[u8], outs: &'a mut [u16]) -> &'a [u16]
+    requires { (length outs.old ≡ 1024) × Cleared outs.old }
+    ensures { Outs (register_in reg.now.bytes.now) result.now }
 {
     if q.len() <= 64 {
-        return 0;
+        return &[];
     }
-    nearby::put_outs(reg, n, m, outs);
-    1024
+    nearby::put_outs(reg, outs);
+    outs
 }
 
-// The incoming links of each item, made where the question asks for incoming neighbours; how much of it was made.
-fn put_ins(reg: &[u8], n: usize, m: usize, incoming: bool, ins: &mut [u16]) -> usize
-    requires { OfRegister reg.now n m × (length ins.old ≡ 3072) × Cleared ins.old }
-    ensures { (result ≤ 3072) × (length ins.new ≡ 3072) × (result ≡ 3072 → Ins (register_in reg.now) ins.new) }
+// The incoming links of each item, made where the question asks for incoming neighbours.
+fn ins_made<'a>(reg: &Register, incoming: bool, ins: &'a mut [u16]) -> &'a [u16]
+    requires { (length ins.old ≡ 3072) × Cleared ins.old }
+    ensures { Ins (register_in reg.now.bytes.now) result.now }
 {
     if !incoming {
-        return 0;
+        return &[];
     }
-    nearby::put_ins(reg, n, m, ins);
-    3072
+    nearby::put_ins(reg, ins);
+    ins
 }
 
 // Whether some entry is one of "the same, incoming".
@@ -112,64 +145,46 @@ fn asks_incoming(q: &[u8]) -> Result<bool, Refusal> {
 
 // Whether the tree at entry `at` holds at the item.
 #[cycle(holds_leads_reaches)]
-fn holds(
-    q: &[u8],
-    at: usize,
-    reg: &[u8],
-    n: usize,
-    m: usize,
-    outs: &[u16],
-    ins: &[u16],
-    known: &mut [u8],
-    steps: &mut u16,
-    x: Item,
-) -> Result<bool, Unsaid>
-    requires { Around reg.now n m outs.now ins.now × Remembers q.now (meant.holds (register_in reg.now)) known.old × (x.0 < n) }
-    ensures tells { Tells q.now at (λ t. meant.holds (register_in reg.now) t x.0) result }
-    ensures known { Remembers q.now (meant.holds (register_in reg.now)) known.new }
+fn holds(asked: &Asked, at: usize, memory: &mut Memory, x: Item) -> Result<bool, Unsaid>
+    requires { Remembers asked.now.question.now (meant.holds (register_of asked.now)) memory.old.known.now
+        × (x.0 < asked.now.links.register.items) }
+    ensures tells { Tells asked.now.question.now at (λ t. meant.holds (register_of asked.now) t x.0) result }
+    ensures known { Remembers asked.now.question.now (meant.holds (register_of asked.now)) memory.new.known.now }
 {
-    let Some(kind) = entry::read(q, at) else {
+    let Some(kind) = entry::read(asked.question, at) else {
         return Err(Unsaid::Refused(Refusal::Question));
     };
     match kind {
         Kind::True => Ok(true),
-        Kind::Literal(literal) => Ok(entry::shows(register::marks(reg, x), literal)),
-        Kind::Not => match holds(q, at + 1, reg, n, m, outs, ins, known, steps, x) {
+        Kind::Literal(literal) => Ok(entry::shows(asked.links.register.marks(x), literal)),
+        Kind::Not => match holds(asked, at + 1, memory, x) {
             Ok(yes) => Ok(!yes),
             Err(unsaid) => Err(unsaid),
         },
         Kind::And | Kind::Or => {
-            let first = match holds(q, at + 1, reg, n, m, outs, ins, known, steps, x) {
+            let first = match holds(asked, at + 1, memory, x) {
                 Ok(yes) => yes,
                 Err(unsaid) => return Err(unsaid),
             };
             if memo::decides(kind, first) {
                 return Ok(first);
             }
-            let Ok(operand) = question::span(q, at + 1) else {
+            let Ok(operand) = question::span(asked.question, at + 1) else {
                 return Err(Unsaid::Refused(Refusal::Question));
             };
-            holds(q, operand.next, reg, n, m, outs, ins, known, steps, x)
+            holds(asked, operand.next, memory, x)
         }
         Kind::AtLeast {
             direction,
             label,
             threshold,
-        } => reaches(
-            q,
-            at + 1,
-            reg,
-            n,
-            m,
-            outs,
-            ins,
-            known,
-            steps,
-            direction,
-            label,
-            threshold,
-            x,
-        ),
+        } => {
+            let along = Along {
+                way: direction,
+                label,
+            };
+            reaches(asked, at + 1, memory, along, threshold, x)
+        }
     }
 }
 
@@ -177,43 +192,23 @@ fn holds(
 // that leads to such a neighbour.
 #[cycle(holds_leads_reaches)]
 fn reaches(
-    q: &[u8],
+    asked: &Asked,
     at: usize,
-    reg: &[u8],
-    n: usize,
-    m: usize,
-    outs: &[u16],
-    ins: &[u16],
-    known: &mut [u8],
-    steps: &mut u16,
-    way: Direction,
-    label: u8,
+    memory: &mut Memory,
+    along: Along,
     threshold: u8,
     x: Item,
 ) -> Result<bool, Unsaid>
-    requires { Around reg.now n m outs.now ins.now × Remembers q.now (meant.holds (register_in reg.now)) known.old × (1 ≤ threshold)
-        × (threshold ≤ 8) × (x.0 < n) }
-    ensures tells { Tells q.now at (reaching (register_in reg.now) way label threshold x.0) result }
-    ensures known { Remembers q.now (meant.holds (register_in reg.now)) known.new }
+    requires { Remembers asked.now.question.now (meant.holds (register_of asked.now)) memory.old.known.now
+        × (1 ≤ threshold) × (threshold ≤ 8) × (x.0 < asked.now.links.register.items) }
+    ensures tells { Tells asked.now.question.now at
+        (reaching (register_of asked.now) along.way along.label threshold x.0) result }
+    ensures known { Remembers asked.now.question.now (meant.holds (register_of asked.now)) memory.new.known.now }
 {
     let mut met = 0;
-    let mut place = nearby::last(reg, n, m, outs, ins, way, x);
+    let mut place = asked.links.last(along.way, x);
     while 0 < place {
-        let led = leads(
-            q,
-            at,
-            reg,
-            n,
-            m,
-            outs,
-            ins,
-            known,
-            steps,
-            way,
-            label,
-            place - 1,
-        );
-        let yes = match led {
+        let yes = match leads(asked, at, memory, along, place - 1) {
             Ok(yes) => yes,
             Err(unsaid) => return Err(unsaid),
         };
@@ -221,7 +216,7 @@ fn reaches(
         if met == threshold {
             return Ok(true);
         }
-        place = nearby::before(reg, n, m, ins, way, x, place);
+        place = asked.links.before(along.way, x, place);
     }
     Ok(false)
 }
@@ -237,48 +232,35 @@ fn added(met: u8, yes: bool) -> u8
 // Whether the link has that label and leads, that way, to a neighbour that satisfies the operand at entry `at`.
 #[cycle(holds_leads_reaches)]
 fn leads(
-    q: &[u8],
+    asked: &Asked,
     at: usize,
-    reg: &[u8],
-    n: usize,
-    m: usize,
-    outs: &[u16],
-    ins: &[u16],
-    known: &mut [u8],
-    steps: &mut u16,
-    way: Direction,
-    label: u8,
+    memory: &mut Memory,
+    along: Along,
     link: usize,
 ) -> Result<bool, Unsaid>
-    requires { Around reg.now n m outs.now ins.now × Remembers q.now (meant.holds (register_in reg.now)) known.old × (link < m) }
-    ensures tells { Tells q.now at (leading (register_in reg.now) way label link) result }
-    ensures known { Remembers q.now (meant.holds (register_in reg.now)) known.new }
+    requires { Remembers asked.now.question.now (meant.holds (register_of asked.now)) memory.old.known.now
+        × (link < asked.now.links.register.links) }
+    ensures tells { Tells asked.now.question.now at
+        (leading (register_of asked.now) along.way along.label link) result }
+    ensures known { Remembers asked.now.question.now (meant.holds (register_of asked.now)) memory.new.known.now }
 {
-    if register::label(reg, n, link) != label {
+    if asked.links.register.label(link) != along.label {
         return Ok(false);
     }
-    let neighbour = register::far(reg, n, link, way);
+    let neighbour = asked.links.register.far(link, along.way);
     let slot = memo::slot_of(at, neighbour.0);
-    if let Some(yes) = memo::recalled(known, slot) {
+    if let Some(yes) = memory.recalled(slot) {
         return Ok(yes);
     }
-    if spent(steps) {
+    if memory.steps == 0 {
         return Err(Unsaid::OutOfSteps);
     }
-    match holds(q, at, reg, n, m, outs, ins, known, steps, neighbour) {
+    memory.steps -= 1;
+    match holds(asked, at, memory, neighbour) {
         Ok(yes) => {
-            memo::remember(known, slot, yes);
+            memo::remember(memory.known, slot, yes);
             Ok(yes)
         }
         Err(unsaid) => Err(unsaid),
     }
-}
-
-// One step less; none was left.
-fn spent(steps: &mut u16) -> bool {
-    if *steps == 0 {
-        return true;
-    }
-    *steps -= 1;
-    false
 }

@@ -1,6 +1,6 @@
 -- `holds` asks `reaches`, which asks `leads` link by link, which asks `holds` at the neighbour: entries left fall, and in the loop the places
 -- left. Each way out is a law of Laws.
-use mathlib.Core.Path.{refl, sym, ap, ◌∙◌}
+use mathlib.Core.Path.{sym, ap, ◌∙◌}
 use mathlib.Core.Option.{some}
 use Prim.Native.Nat.{ℕ}
 use native.Mathlib.Omega.{arith}
@@ -10,8 +10,7 @@ use Rattle.meaning.specs.declared.Kind.TheVariants.{Literal}
 use Rattle.entry.proofs.Laws.{literal_back, literal_read, least_read}
 use Rattle.memo.specs.Kept.{recalled}
 use Rattle.memo.proofs.Laws.{says_true, says_literal, says_not, says_first, spans_on, recalled_so, remembers_kept}
-use Rattle.descent.proofs.Laws.{truth, tells_second, tells_least, met_none, met_one, met_enough, met_all, own_link, cond_most, item_few, leads_there}
-use borrow.Author.Rules.{rules}
+use Rattle.descent.proofs.Laws.{truth, tells_second, tells_least, met_none, met_one, met_enough, met_all, cond_most, leads_there}
 use Rattle.descent.proofs.+holds_leads_reaches.Goals as goal
 
 pub holds-shows-requires : goal.holds-shows-requires
@@ -23,12 +22,12 @@ holds-returns-then-decides-clause-tells t c =
 
 pub holds-holds-requires-in-And-2 : goal.holds-holds-requires-in-And-2
 holds-holds-requires-in-And-2 t c =
-    (omega (arith, c.in-Some.ensures.within, c.decreases, spans_on _ _ _ c.in-Ok-span.ensures), (c.requires.0, c.in-Ok-holds.ensures.known, c.requires.2))
+    (omega (arith, c.in-Some.ensures.within, c.decreases, spans_on _ _ _ c.in-Ok-span.ensures), (c.in-Ok-holds.ensures.known, c.requires.1))
 
 pub holds-reaches-requires : goal.holds-reaches-requires
 holds-reaches-requires t c =
     let e = least_read _ _ (sym c.in-Some.ensures.entry ∙ ap some c.in-AtLeast.is) in
-    (omega (arith, c.in-Some.ensures.within, c.decreases), (c.requires.0, c.requires.1, e.1, e.2, c.requires.2))
+    (omega (arith, c.in-Some.ensures.within, c.decreases), (c.requires.0, e.1, e.2, c.requires.1))
 
 pub holds-returns-in-True-clause-tells : goal.holds-returns-in-True-clause-tells
 holds-returns-in-True-clause-tells t c = says_true (truth _ _) _ _ (sym c.in-Some.ensures.entry ∙ ap some c.in-True.is)
@@ -50,32 +49,31 @@ pub holds-returns-in-AtLeast-clause-tells : goal.holds-returns-in-AtLeast-clause
 holds-returns-in-AtLeast-clause-tells t c =
     tells_least _ _ _ _ _ _ _ _ (sym c.in-Some.ensures.entry ∙ ap some c.in-AtLeast.is) c.reaches.ensures.tells
 
-pub leads-slot_of-slot-requires : goal.leads-slot_of-slot-requires
-leads-slot_of-slot-requires t c = item_few _ _ _ _ c.requires.0.register c.far-neighbour.ensures.1
-
 pub leads-returns-in-Some-clause-tells : goal.leads-returns-in-Some-clause-tells
 leads-returns-in-Some-clause-tells t c =
     let f = c.far-neighbour.ensures in
-    leads_there _ _ _ _ _ _ _ _ c.label.ensures.0 f.0 c.if-label.false _
-    (recalled_so _ _ _ c.requires.1 c.args.at _ (item_few _ _ _ _ c.requires.0.register f.1) _
-    (c.in-Some.ensures ∙ ap (λ (j : ℕ). recalled (get_or c.args.known.now j 0)) c.slot_of-slot.ensures))
+    let few = c.args.asked.now.links.register.few_items in
+    leads_there _ _ _ _ _ _ _ _ c.label.ensures.0 f.0 c.if-label-along.false _
+    (recalled_so _ _ _ c.requires.0 c.args.at _ (omega (arith, f.1, few)) _
+    (c.in-Some.ensures ∙ ap (λ (j : ℕ). recalled (get_or c.args.memory.now.known.now j 0)) c.slot_of-slot.ensures))
 
 pub leads-returns-in-Ok-clause-known : goal.leads-returns-in-Ok-clause-known
 leads-returns-in-Ok-clause-known t c =
     let h = c.in-Ok.ensures in
+    let few = c.args.asked.now.links.register.few_items in
     rw (c.remember.ensures, c.slot_of-slot.ensures)
-    (remembers_kept _ _ _ h.known c.args.at _ (item_few _ _ _ _ c.requires.0.register c.far-neighbour.ensures.1) c.in-Ok.yes h.tells)
+    (remembers_kept _ _ _ h.known c.args.at _ (omega (arith, c.far-neighbour.ensures.1, few)) c.in-Ok.yes h.tells)
 
 pub reaches-loop-place-init : goal.reaches-loop-place-init
 reaches-loop-place-init t c =
-    let s = c.requires in
-    let l = c.last-place.ensures in (s.2, l.low, l.own, met_none _ _ _ _ _ _ _ _ s.0.register.links_are l, s.1)
+    let l = c.last-place.ensures in
+    (c.requires.1, l.low, l.own, met_none _ _ _ _ _ _ _ _ c.args.asked.now.links.register.accepted.links_are l, c.requires.0)
 
 pub reaches-returns-then-met-threshold-clause-tells : goal.reaches-returns-then-met-threshold-clause-tells
 reaches-returns-then-met-threshold-clause-tells t c =
     let l = c.loop-place.invariant in
     let test = c.loop-place-test.true in
-    met_enough _ _ _ _ _ _ _ _ l.3 (omega (arith, test)) (own_link _ _ _ _ l.2 test) _ c.in-Ok.ensures.tells _ (sym c.added-met.ensures ∙ c.if-met-threshold.true)
+    met_enough _ _ _ _ _ _ _ _ l.3 (omega (arith, test)) (l.2 (omega (arith, test))) _ c.in-Ok.ensures.tells _ (sym c.added-met.ensures ∙ c.if-met-threshold.true)
 
 pub reaches-loop-place-preserved : goal.reaches-loop-place-preserved
 reaches-loop-place-preserved t c =
@@ -86,7 +84,7 @@ reaches-loop-place-preserved t c =
       omega (arith, l.0, c.added-met.ensures, c.if-met-threshold.false, cond_most c.in-Ok.yes),
       omega (arith, last.low, l.1),
       last.own,
-      rw c.added-met.ensures (met_one _ _ _ _ _ _ _ _ l.3 (omega (arith, test)) (own_link _ _ _ _ l.2 test) _ h.tells _ last),
+      rw c.added-met.ensures (met_one _ _ _ _ _ _ _ _ l.3 (omega (arith, test)) (l.2 (omega (arith, test))) _ h.tells _ last),
       h.known,
     )
 

@@ -1,10 +1,10 @@
--- Asked from entry 0, with nothing known yet.
+-- A list of zeros is zero anywhere.
 use native.Mathlib.Omega.{arith}
-use Rattle.memo.proofs.Laws.{remembers_none}
+use Rattle.memo.proofs.Laws.{zeros}
 use Rattle.descent.proofs.ask_deep.Goals as goal
 
-pub holds-requires : goal.holds-requires
-holds-requires c = let s = c.requires in (s.0, remembers_none _ _ 16384 (omega arith), s.1)
+pub ask_kept-requires : goal.ask_kept-requires
+ask_kept-requires c = (c.requires, omega arith, zeros 16384)
 
-pub holds-requires-2 : goal.holds-requires-2
-holds-requires-2 c = let s = c.requires in (s.0, remembers_none _ _ 65536 (omega arith), s.1)
+pub ask_kept-requires-2 : goal.ask_kept-requires-2
+ask_kept-requires-2 c = (c.requires, omega arith, zeros 65536)

@@ -1,20 +1,17 @@
--- What is at hand where a question is asked of a register from an item downwards, what an item's links are asked, and what is said. Leans on
--- nearby for the links of an item, on memo for what is said of a tree and on meaning for where a question holds.
+-- What an item's links are asked, and what is said of a question that is asked of a register from an item downwards. Leans on memo for what
+-- is said of a tree and on meaning for where a question holds.
 use Rattle.std.specs.Prelude.{Result, Ok, Err, ℕ, ◌≡◌, Bool, ◌&&◌, List, leb, eqb, get_or}
 use Rattle.meaning.specs.Register.{Register, link_of, far, neighbours}
 use Rattle.meaning.specs.declared.Direction.{Direction}
 use Rattle.meaning.specs.Question.{Question, holds}
 use Rattle.meaning.specs.RegisterFile.{register_in}
-use Rattle.register.specs.Told.{OfRegister}
 use Rattle.memo.specs.Kept.{Says}
-use Rattle.nearby.specs.Nearby.{Outs, Ins}
+use Rattle.descent.specs.declared.Asked.{Asked}
 use Rattle.descent.specs.declared.Unsaid.{Unsaid}
 
--- an accepted register, and where its items' links end
-pub record Around (reg : List ℕ) (n m : ℕ) (outs ins : List ℕ) : Type 0 where
-  pub register : OfRegister reg n m
-  pub outs_are : Outs (register_in reg) outs
-  pub ins_are : Ins (register_in reg) ins
+-- the register that is asked
+abbrev pub register_of : Asked → Register
+register_of a = register_in a.links.register.bytes.now
 
 -- nothing but zeros
 abbrev pub Cleared : List ℕ → Type 0
