@@ -20,7 +20,6 @@ use Rattle.register.specs.Told.{OfRegister}
 use Rattle.register.proofs.Laws.{limits}
 use Rattle.alike.specs.Step.{Reached}
 use Rattle.surround.proofs.Keys.{of_fine}
-use Rattle.alike.proofs.ByLevel.{take_level}
 use Rattle.summary.specs.Numbers.{numbers, summary_numbers, head_of, head_numbers, class_fields, class_numbers, row_numbers, edge_numbers}
 use Rattle.summary.proofs.Laws.{numbers_bytes}
 use Rattle.classes.specs.Counted.{Sorted}
@@ -36,10 +35,10 @@ module _ {b : List ℕ} {n m µ g c : ℕ} {groups map starts words : List ℕ} 
   R = register_in b
 
   abbrev gs : List ℕ
-  gs = take n groups
+  gs = groups
 
   abbrev cs : List ℕ
-  cs = take n map
+  cs = map
 
   pub few_items : n ≤ 1024
   few_items = (limits b n m k.register).0
@@ -50,42 +49,38 @@ module _ {b : List ℕ} {n m µ g c : ℕ} {groups map starts words : List ℕ} 
   pub few_classes : c ≤ 1024
   few_classes = omega (arith, k.classes_are, k.numbered.few, k.register.items_are, few_items)
 
-  there : (s : List ℕ) → length (take n s) ≡ n → n ≤ length s
-  there s h = omega (arith, h, length-take n s)
-
-  pub map_there : n ≤ length map
-  map_there = there map (k.numbered.long ∙ sym k.register.items_are)
-
   classes_numbered : Numbering (alike R µ k.level) n cs
   classes_numbered = subst (λ (x : ℕ). Numbering (alike R µ k.level) x cs) (sym k.register.items_are) k.numbered
 
-  pub sorted : Sorted b n groups map
+  pub map_long : length map ≡ n
+  map_long = classes_numbered.long
+
+  pub sorted : Sorted n groups map
   sorted =
       record {
-        fine = k.register.fine;
-        items_are = k.register.items_are;
-        groups_there = there groups k.groups_long;
-        classes_there = map_there;
+        groups_there = k.groups_long;
+        classes_there = classes_numbered.long;
         few = omega (arith, k.classes_are, few_classes);
         used = classes_numbered.used;
       }
 
-  pub given : Given R µ gs n map starts words
+  pub given : Given R µ gs map starts words
   given =
+      let long : length map ≡ n = classes_numbered.long in
       record {
         cap_low = k.cap_low;
         few_groups = omega (arith, k.groups_are, few_groups);
-        few = few_items;
-        few_rows = omega (arith, rows_long R µ gs n starts words k.rows_stand, k.few_words);
-        rows_stand = k.rows_stand;
+        few = omega (arith, few_items);
+        few_rows = rw long (omega (arith, rows_long R µ gs n starts words k.rows_stand, k.few_words));
+        rows_stand = rw long k.rows_stand;
         like = alike R µ k.level;
-        numbered = classes_numbered;
+        numbered = rw long classes_numbered;
       }
 
   -- what the writer of rows says of their number and of the numbers
   abbrev pub Rows : ℕ → List ℕ → Type 0
   Rows r out =
-      (R : Register) (µ : ℕ) (gs : List ℕ) → Given R µ gs n map starts words →
+      (R : Register) (µ : ℕ) (gs : List ℕ) → Given R µ gs map starts words →
       (r ≡ length (class_rows R µ gs cs)) × (take (4 * r) out ≡ pack row_numbers (class_rows R µ gs cs))
 
   -- "r ≤ 2m", "e ≤ m"
@@ -123,17 +118,11 @@ module _ {b : List ℕ} {n m µ g c : ℕ} {groups map starts words : List ℕ} 
 
 -- ---- from the levels to the summary
 
-module _ (b : List ℕ) (n m µ i ν : ℕ) (lower₀ lower upper₀ upper : List ℕ) (g c : ℕ) (starts words : List ℕ) (o : OfRegister b n m)
-    (s : Reached (register_in b) µ n i lower₀ lower upper₀ upper g c starts words) where
-  groups_reached : take n lower ≡ class_list (register_in b) µ (pred i)
-  groups_reached = take_level (register_in b) µ n o.items_are (pred i) lower _ s.lower_is
-
-  classes_reached : take n upper ≡ class_list (register_in b) µ i
-  classes_reached = take_level (register_in b) µ n o.items_are i upper _ s.upper_is
-
-  pub reached : summary_bytes (summary_by µ ν (register_in b) (take n lower) (take n upper) i) ≡ summary_bytes (summary_of i µ ν (register_in b))
+module _ (b : List ℕ) (n m µ i ν : ℕ) (lower upper : List ℕ) (g c : ℕ) (starts words : List ℕ) (o : OfRegister b n m)
+    (s : Reached (register_in b) µ n i lower upper g c starts words) where
+  pub reached : summary_bytes (summary_by µ ν (register_in b) lower upper i) ≡ summary_bytes (summary_of i µ ν (register_in b))
   unfolding summary_of
-  reached = rw (groups_reached, classes_reached)
+  reached = rw (s.lower_is, s.upper_is)
 
   pub classed : µ ≤ 7 → length words ≤ 4096 → Classed b n m µ g c lower upper starts words
   classed low few =
@@ -141,12 +130,12 @@ module _ (b : List ℕ) (n m µ i ν : ℕ) (lower₀ lower upper₀ upper : Lis
       record {
         register = o;
         cap_low = low;
-        groups_are = rw groups_reached s.groups_are;
-        classes_are = rw classes_reached s.classes_are;
-        groups_long = rw groups_reached (G.long ∙ sym o.items_are);
-        few_groups = rw groups_reached (omega (arith, G.few, o.items_are));
+        groups_are = rw s.lower_is s.groups_are;
+        classes_are = rw s.upper_is s.classes_are;
+        groups_long = rw s.lower_is (G.long ∙ sym o.items_are);
+        few_groups = rw s.lower_is (omega (arith, G.few, o.items_are));
         level = i;
-        numbered = rw classes_reached (class_list_law (register_in b) µ i);
-        rows_stand = rw groups_reached s.rows_stand;
+        numbered = rw s.upper_is (class_list_law (register_in b) µ i);
+        rows_stand = rw s.lower_is s.rows_stand;
         few_words = few;
       }

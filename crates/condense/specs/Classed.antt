@@ -1,5 +1,5 @@
 -- What the writer of a summary is handed. Leans on register's and surround's records.
-use Rattle.std.specs.Prelude.{◌≡◌, List, ℕ, ◌≤◌, length, take}
+use Rattle.std.specs.Prelude.{◌≡◌, List, ℕ, ◌≤◌, length}
 use Rattle.meaning.specs.Register.{items}
 use Rattle.meaning.specs.Level.{alike, class_count, Numbering}
 use Rattle.meaning.specs.RegisterFile.{register_in}
@@ -11,11 +11,11 @@ use Rattle.surround.specs.Surroundings.{RowsStand}
 pub record Classed (b : List ℕ) (n m µ g c : ℕ) (groups map starts words : List ℕ) : Type 0 where
   pub register : OfRegister b n m
   pub cap_low : µ ≤ 7
-  pub groups_are : g ≡ class_count (take n groups)
-  pub classes_are : c ≡ class_count (take n map)
-  pub groups_long : length (take n groups) ≡ n
-  pub few_groups : class_count (take n groups) ≤ n
+  pub groups_are : g ≡ class_count groups
+  pub classes_are : c ≡ class_count map
+  pub groups_long : length groups ≡ n
+  pub few_groups : class_count groups ≤ n
   pub level : ℕ
-  pub numbered : Numbering (alike (register_in b) µ level) (items (register_in b)) (take n map)
-  pub rows_stand : RowsStand (register_in b) µ (take n groups) n starts words
+  pub numbered : Numbering (alike (register_in b) µ level) (items (register_in b)) map
+  pub rows_stand : RowsStand (register_in b) µ groups n starts words
   pub few_words : length words ≤ 4096

@@ -2,102 +2,125 @@
 // on classes, filed and edges for the parts, on summary for the file.
 #![tactic(auto)]
 
-ghost use Rattle.std.specs.Prelude.{◌≤◌, length, take};
+ghost use Rattle.std.specs.Prelude.{◌≤◌, length};
 ghost use Rattle.meaning.specs.Condense.{summary_by, summary_of};
 ghost use Rattle.meaning.specs.RegisterFile.{register_in};
 ghost use Rattle.meaning.specs.SummaryFile.{summary_bytes};
 ghost use Rattle.meaning.specs.Answers.{into};
-ghost use Rattle.register.specs.Told.{OfRegister};
 ghost use Rattle.said.specs.Written.{Gives};
 ghost use Rattle.condense.specs.Classed.{Classed};
 
 use meaning::Refusal;
+use register::Register;
+use rows::Rows;
 use summary::{Counts, Parts};
 
+// The level and the caps that are wanted: i, µ and ν.
+#[derive(Clone, Copy)]
+pub struct Wanted {
+    pub level: u16,
+    pub near_cap: u8,
+    pub class_cap: u8,
+}
+
 // "The classes of a summary are those of level i; its groups are those of level i − 1": 9, or its bytes.
-pub fn condense(
-    reg: &[u8],
-    n: usize,
-    m: usize,
-    i: u16,
-    mu: u8,
-    nu: u8,
-    out: &mut [u8],
-) -> Result<usize, Refusal>
-    requires { OfRegister reg.now n m × (1 ≤ i) × (mu ≤ 7) }
+pub fn condense(reg: &Register, wanted: Wanted, out: &mut [u8]) -> Result<usize, Refusal>
+    requires { (1 ≤ wanted.level) × (wanted.near_cap ≤ 7) }
     ensures { Gives result out.old out.new
-        (into (length out.old) (summary_bytes (summary_of i mu nu (register_in reg.now)))) }
+        (into (length out.old) (summary_bytes (summary_of wanted.level wanted.near_cap wanted.class_cap (register_in reg.now.bytes.now)))) }
 {
     let mut groups = [0u16; 1024];
     let mut map = [0u16; 1024];
-    let mut words = [0u64; 4096];
-    let mut starts = [0u16; 1025];
-    let counts = alike::levels(
+    condense_in(
         reg,
-        n,
-        m,
-        mu,
-        i as usize,
-        &mut groups,
-        &mut map,
-        &mut words,
-        &mut starts,
-    );
-    put_summary(
-        reg,
-        n,
-        m,
-        i,
-        mu,
-        nu,
-        counts.groups,
-        counts.classes,
-        &groups,
-        &map,
-        &starts,
-        &words,
+        wanted,
+        &mut groups[..reg.items],
+        &mut map[..reg.items],
         out,
     )
 }
 
-// The summary with these groups, and with these classes of some level.
-fn put_summary(
-    reg: &[u8],
-    n: usize,
-    m: usize,
-    i: u16,
-    mu: u8,
-    nu: u8,
-    g: usize,
-    c: usize,
-    groups: &[u16],
-    map: &[u16],
-    starts: &[u16],
-    words: &[u64],
+// The same, with room lent for the group and for the class of each item.
+fn condense_in(
+    reg: &Register,
+    wanted: Wanted,
+    groups: &mut [u16],
+    map: &mut [u16],
     out: &mut [u8],
 ) -> Result<usize, Refusal>
-    requires { Classed reg.now n m mu g c groups.now map.now starts.now words.now }
+    requires { (1 ≤ wanted.level) × (wanted.near_cap ≤ 7) × (length groups.old ≡ reg.now.items) × (length map.old ≡ reg.now.items) }
     ensures { Gives result out.old out.new
-        (into (length out.old) (summary_bytes (summary_by mu nu (register_in reg.now) (take n groups.now) (take n map.now) i))) }
+        (into (length out.old) (summary_bytes (summary_of wanted.level wanted.near_cap wanted.class_cap (register_in reg.now.bytes.now)))) }
 {
-    let classes = classes::records(reg, n, groups, map, nu);
+    let mut rows = Rows {
+        words: [0; 4096],
+        starts: [0; 1025],
+    };
+    let counts = alike::levels(
+        reg,
+        wanted.near_cap,
+        wanted.level as usize,
+        groups,
+        map,
+        &mut rows,
+    );
+    let classed = Classified {
+        counts,
+        groups,
+        map,
+        rows: &rows,
+    };
+    put_summary(reg, wanted, &classed, out)
+}
+
+// The group and the class of each item, how many there are of each, and the rows of the items.
+struct Classified<'a> {
+    counts: alike::Counts,
+    groups: &'a [u16],
+    map: &'a [u16],
+    rows: &'a Rows,
+}
+
+// The summary with these groups, and with these classes of some level.
+fn put_summary(
+    reg: &Register,
+    wanted: Wanted,
+    items: &Classified,
+    out: &mut [u8],
+) -> Result<usize, Refusal>
+    requires { Classed reg.now.bytes.now reg.now.items reg.now.links wanted.near_cap items.now.counts.groups items.now.counts.classes
+        items.now.groups.now items.now.map.now items.now.rows.now.starts items.now.rows.now.words }
+    ensures { Gives result out.old out.new (into (length out.old) (summary_bytes
+        (summary_by wanted.near_cap wanted.class_cap (register_in reg.now.bytes.now) items.now.groups.now items.now.map.now wanted.level))) }
+{
+    let classes = classes::records(reg, items.groups, items.map, wanted.class_cap);
     let mut rows = [0u16; 16384];
-    let r = filed::row_numbers(n, map, starts, words, &mut rows);
+    let r = filed::row_numbers(
+        items.map,
+        &items.rows.starts,
+        &items.rows.words,
+        &mut rows,
+    );
     let mut edges = [0u16; 6144];
-    let e = edges::class_links(reg, n, m, map, &mut edges);
+    let e = edges::class_links(reg, items.map, &mut edges);
     let of = Counts {
-        classes: c as u16,
-        groups: g as u16,
+        classes: items.counts.classes as u16,
+        groups: items.counts.groups as u16,
         rows: r as u16,
         edges: e as u16,
-        items: n as u16,
+        items: reg.items as u16,
     };
     let parts = Parts {
-        head: summary::head(i, mu as u16, nu as u16, of),
-        classes: &classes[..summary::CLASS * c],
+        head: summary::head(
+            wanted.level,
+            wanted.near_cap as u16,
+            wanted.class_cap as u16,
+            of,
+        ),
+        classes: &classes[..summary::CLASS * items.counts.classes],
         rows: &rows[..summary::ROW * r],
         edges: &edges[..summary::EDGE * e],
-        map: &map[..n],
+        map: items.map,
     };
     summary::file(out, parts)
 }

@@ -6,7 +6,7 @@ use lib.ListN.{length-take}
 use lib.Seq.{length-take-le}
 use Rattle.meaning.specs.Answers.{into}
 use Rattle.said.proofs.Laws.{gives_this}
-use Rattle.condense.proofs.Laws.{few_items, few_groups, few_classes, map_there, sorted, given, rows_fit, few_links, head_is, bytes_are}
+use Rattle.condense.proofs.Laws.{few_items, few_groups, few_classes, map_long, sorted, given, rows_fit, few_links, head_is, bytes_are}
 use Rattle.condense.proofs.put_summary.Goals as goal
 
 pub records-classes-requires : goal.records-classes-requires
@@ -17,8 +17,7 @@ row_numbers-r-requires c = ((_, _, _, given c.requires), omega arith)
 
 pub class_links-e-requires : goal.class_links-e-requires
 class_links-e-requires c = (
-  c.requires.register,
-  map_there c.requires,
+  map_long c.requires,
   omega (arith, c.requires.classes_are, few_classes c.requires),
   omega arith,
 )
@@ -76,7 +75,7 @@ pub returns : goal.returns
 returns c =
     let rows = rows_fit c.requires _ _ c.row_numbers-r.ensures in
     let links = c.class_links-e.ensures in
-    let head = head_is c.requires c.args.nu c.args.i rows.0 links.0 c.head.ensures in
+    let head = head_is c.requires c.args.wanted.class_cap c.args.wanted.level rows.0 links.0 c.head.ensures in
     gives_this _ _ _ _ _
-    (ap (into _) (bytes_are c.requires c.args.nu c.args.i _ head c.records-classes.ensures.numbered rows.1 links.1))
+    (ap (into _) (bytes_are c.requires c.args.wanted.class_cap c.args.wanted.level _ head c.records-classes.ensures.numbered rows.1 links.1))
     c.file.ensures
