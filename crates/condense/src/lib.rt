@@ -12,7 +12,7 @@ ghost use Rattle.said.specs.Written.{Gives};
 ghost use Rattle.condense.specs.Classed.{Classed};
 
 use meaning::Refusal;
-use summary::{Counts, Parts};
+use summary::Parts;
 
 // "The classes of a summary are those of level i; its groups are those of level i − 1": 9, or its bytes.
 pub fn condense(
@@ -85,19 +85,15 @@ fn put_summary(
     let r = filed::row_numbers(n, map, starts, words, &mut rows);
     let mut edges = [0u16; 6144];
     let e = edges::class_links(reg, n, m, map, &mut edges);
-    let of = Counts {
-        classes: c as u16,
-        groups: g as u16,
-        rows: r as u16,
-        edges: e as u16,
-        items: n as u16,
-    };
     let parts = Parts {
-        head: summary::head(i, mu as u16, nu as u16, of),
+        level: i,
+        near: mu,
+        class: nu,
+        groups: g,
         classes: &classes[..summary::CLASS * c],
         rows: &rows[..summary::ROW * r],
         edges: &edges[..summary::EDGE * e],
         map: &map[..n],
     };
-    summary::file(out, parts)
+    summary::file(out, &parts)
 }
