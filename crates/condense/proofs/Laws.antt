@@ -20,7 +20,7 @@ use Rattle.register.specs.Told.{OfRegister}
 use Rattle.register.proofs.Laws.{limits}
 use Rattle.alike.specs.Step.{Reached}
 use Rattle.surround.proofs.Keys.{of_fine}
-use Rattle.summary.specs.Numbers.{numbers, summary_numbers, head_of, head_numbers, class_fields, class_numbers, row_numbers, edge_numbers}
+use Rattle.summary.specs.Numbers.{numbers, summary_numbers, class_fields, class_numbers, row_numbers, edge_numbers}
 use Rattle.summary.proofs.Laws.{numbers_bytes}
 use Rattle.classes.specs.Counted.{Sorted}
 use Rattle.filed.specs.Copied.{Given, class_rows}
@@ -96,25 +96,12 @@ module _ {b : List ℕ} {n m µ g c : ℕ} {groups map starts words : List ℕ} 
   pub rows_fit : (r : ℕ) (out : List ℕ) → Rows r out → (r ≡ length (class_rows R µ gs cs)) × (take (4 * r) out ≡ pack row_numbers (class_rows R µ gs cs)) × (r ≤ 4096)
   rows_fit r out w = let e = w R µ gs given in (e.0, e.1, omega (arith, e, few_rows))
 
-  module _ (ν i : ℕ) where
-    abbrev S : Summary
-    S = summary_by µ ν R gs cs i
-
-    -- the header's numbers from the counts
-    pub head_is : {head : List ℕ} {r e : ℕ} → r ≡ length (class_rows R µ gs cs) → e ≡ length (class_links R cs) →
-        head ≡ head_of i µ ν c g r e n → head ≡ head_numbers S
-    unfolding head_numbers summary_by
-    head_is hr he h =
-        let lc : c ≡ length (tab (class_for ν R gs cs) (class_count cs)) = k.classes_are ∙ sym (length_tab (class_for ν R gs cs) (class_count cs)) in
-        let lm : n ≡ length cs = k.register.items_are ∙ sym k.numbered.long in
-        cc (h, lc, lm, hr, he)
-
-    pub bytes_are : {head rows edges : List ℕ} (classes : List ℕ) → head ≡ head_numbers S →
-        take (class_fields * class_count cs) classes ≡ pack class_numbers (tab (class_for ν R gs cs) (class_count cs)) →
-        rows ≡ pack row_numbers (class_rows R µ gs cs) → edges ≡ pack edge_numbers (class_links R cs) →
-        pack put2 (numbers head (take (class_fields * c) classes) rows edges cs) ≡ summary_bytes S
-    unfolding summary_numbers summary_by
-    bytes_are classes h l o q = rw (h, k.classes_are, l, o, q) (numbers_bytes S)
+  pub bytes_are : (ν i : ℕ) {rows edges : List ℕ} (classes : List ℕ) →
+      take (class_fields * class_count cs) classes ≡ pack class_numbers (tab (class_for ν R gs cs) (class_count cs)) →
+      rows ≡ pack row_numbers (class_rows R µ gs cs) → edges ≡ pack edge_numbers (class_links R cs) →
+      pack put2 (numbers i µ ν g (take (class_fields * c) classes) rows edges cs) ≡ summary_bytes (summary_by µ ν R gs cs i)
+  unfolding summary_numbers summary_by
+  bytes_are ν i classes l o q = rw (k.groups_are, k.classes_are, l, o, q) (numbers_bytes (summary_by µ ν R gs cs i))
 
 -- ---- from the levels to the summary
 

@@ -13,7 +13,7 @@ ghost use Rattle.condense.specs.Classed.{Classed};
 use meaning::Refusal;
 use register::Register;
 use rows::Rows;
-use summary::{Counts, Parts};
+use summary::Parts;
 
 // The level and the caps that are wanted: i, µ and ν.
 #[derive(Clone, Copy)]
@@ -74,6 +74,7 @@ fn condense_in(
 }
 
 // The group and the class of each item, how many there are of each, and the rows of the items.
+#[derive(Clone, Copy)]
 struct Classified<'a> {
     counts: alike::Counts,
     groups: &'a [u16],
@@ -103,24 +104,15 @@ fn put_summary(
     );
     let mut edges = [0u16; 6144];
     let e = edges::class_links(reg, items.map, &mut edges);
-    let of = Counts {
-        classes: items.counts.classes as u16,
-        groups: items.counts.groups as u16,
-        rows: r as u16,
-        edges: e as u16,
-        items: reg.items as u16,
-    };
     let parts = Parts {
-        head: summary::head(
-            wanted.level,
-            wanted.near_cap as u16,
-            wanted.class_cap as u16,
-            of,
-        ),
+        level: wanted.level,
+        near: wanted.near_cap,
+        class: wanted.class_cap,
+        groups: items.counts.groups,
         classes: &classes[..summary::CLASS * items.counts.classes],
         rows: &rows[..summary::ROW * r],
         edges: &edges[..summary::EDGE * e],
         map: items.map,
     };
-    summary::file(out, parts)
+    summary::file(out, &parts)
 }

@@ -1,7 +1,7 @@
 -- The bytes of a summary are the bytes of its numbers, and five parts written one behind the other are one list. Leans on wire's Sets.
-use mathlib.Core.Path.{◌≡◌, refl, sym, ap₂, ◌∙◌}
+use mathlib.Core.Path.{◌≡◌, refl, sym, ap, ap₂, ◌∙◌}
 use mathlib.Core.List.{List, [], ◌∷◌, ◌++◌, append-nil, append_assoc}
-use Prim.Native.Nat.{ℕ, ◌+◌, ◌*◌}
+use Prim.Native.Nat.{ℕ, ◌+◌, ◌*◌, ◌/◌}
 use native.Mathlib.Omega.{arith}
 use lib.ListN.{length, length-append}
 use lib.Seq.{sets}
@@ -12,7 +12,7 @@ use Rattle.meaning.specs.RegisterFile.{put_link}
 use Rattle.meaning.specs.SummaryFile.{put_class, put_row, summary_head, summary_bytes}
 pub use Rattle.wire.proofs.Sets.{pack_append, size_numbers}
 use Rattle.wire.proofs.Sets.{then}
-use Rattle.summary.specs.Numbers.{class_numbers, row_numbers, edge_numbers, head_of, head_numbers, summary_numbers, numbers}
+use Rattle.summary.specs.Numbers.{class_fields, row_fields, edge_fields, class_numbers, row_numbers, edge_numbers, head_of, summary_numbers, numbers}
 
 -- ---- packing
 
@@ -36,15 +36,24 @@ edge_bytes : (a : Link) → pack put2 (edge_numbers a) ≡ put_link a
 unfolding pack edge_numbers put_link put2
 edge_bytes a = refl
 
-head_bytes : (S : Summary) → pack put2 (head_numbers S) ≡ summary_head S
-unfolding pack head_numbers head_of summary_head put2
-head_bytes S = refl
+size_records : {A : Type 0} (f : A → List ℕ) (w : ℕ) → ((a : A) → length (f a) ≡ w) → (s : List A) → length (pack f s) ≡ w * length s
+unfolding pack
+size_records f w size [] = omega arith
+size_records f w size (a ∷ s) = omega (arith, length-append (f a) (pack f s), size a, size_records f w size s)
+
+head_bytes : (S : Summary) (c r e : ℕ) → c ≡ length S.classes → r ≡ length S.rows → e ≡ length S.links →
+    pack put2 (head_of S.level S.near_cap S.class_cap c S.groups r e (length S.map)) ≡ summary_head S
+unfolding pack head_of summary_head put2
+head_bytes S c r e f g h = rw (f, g, h)
 
 pub numbers_bytes : (S : Summary) → pack put2 (summary_numbers S) ≡ summary_bytes S
-unfolding summary_numbers numbers summary_bytes
+unfolding summary_numbers numbers summary_bytes class_numbers row_numbers edge_numbers
 numbers_bytes S =
-    pack_append put2 (head_numbers S) _
-    ∙ ap₂ (λ (x y : List ℕ). x ++ y) (head_bytes S)
+    let c = size_records class_numbers class_fields (λ a. refl) S.classes in
+    let r = size_records row_numbers row_fields (λ a. refl) S.rows in
+    let e = size_records edge_numbers edge_fields (λ a. refl) S.links in
+    pack_append put2 _ _
+    ∙ ap₂ (λ (x y : List ℕ). x ++ y) (head_bytes S _ _ _ (omega (arith, c)) (omega (arith, r)) (omega (arith, e)))
     (pack_append put2 (pack class_numbers S.classes) _
     ∙ ap₂ (λ (x y : List ℕ). x ++ y) (pack_pack class_numbers put_class class_bytes S.classes)
     (pack_append put2 (pack row_numbers S.rows) _
@@ -54,35 +63,39 @@ numbers_bytes S =
 
 -- ---- five parts, one behind the other
 
-pub parts_long : (h c r e m : List ℕ) →
-    length (pack put2 (numbers h c r e m)) ≡ 2 * length h + 2 * (length c + length r + length e + length m)
-unfolding numbers
-parts_long h c r e m =
+pub parts_long : (i µ ν g : ℕ) (c r e m : List ℕ) →
+    length (pack put2 (numbers i µ ν g c r e m)) ≡ 24 + 2 * (length c + length r + length e + length m)
+unfolding numbers head_of
+parts_long i µ ν g c r e m =
     omega (
       arith,
-      size_numbers (h ++ (c ++ (r ++ (e ++ m)))),
-      length-append h (c ++ (r ++ (e ++ m))),
+      size_numbers (head_of i µ ν (length c / class_fields) g (length r / row_fields) (length e / edge_fields) (length m) ++ (c ++ (r ++ (e ++ m)))),
       length-append c (r ++ (e ++ m)),
       length-append r (e ++ m),
       length-append e m,
     )
 
-module _ (d : List ℕ) where
-  pub written : (h c r e m : List ℕ) {v w x y z : List ℕ} (i j k l : ℕ) →
-      i ≡ 2 * length h → j ≡ i + 2 * length c → k ≡ j + 2 * length r → l ≡ k + 2 * length e →
-      v ≡ sets d 0 (pack put2 h) → w ≡ sets v i (pack put2 c) → x ≡ sets w j (pack put2 r) → y ≡ sets x k (pack put2 e) → z ≡ sets y l (pack put2 m) →
-      z ≡ sets d 0 (pack put2 (numbers h c r e m))
-  unfolding numbers
-  written h c r e m i j k l ei ej ek el ev ew ex ey ez =
-      let a = then_part h c i (omega arith) ev ew in
-      let b = then_part (h ++ c) r j (omega (arith, length-append h c)) a ex in
-      let f = then_part ((h ++ c) ++ r) e k (omega (arith, length-append h c, length-append (h ++ c) r)) b ey in
-      let g = then_part (((h ++ c) ++ r) ++ e) m l (omega (arith, length-append h c, length-append (h ++ c) r, length-append ((h ++ c) ++ r) e)) f ez in
-      rw (← regroup h c r e m) g
-    where
-      then_part : (s t : List ℕ) {a b : List ℕ} (at : ℕ) → at ≡ 2 * length s → a ≡ sets d 0 (pack put2 s) → b ≡ sets a at (pack put2 t) →
-          b ≡ sets d 0 (pack put2 (s ++ t))
-      then_part s t at n f g = rw (pack_append put2 s t) (then d 0 (pack put2 s) (pack put2 t) at (omega (arith, size_numbers s)) f g)
+module _ (d h c r e m : List ℕ) (at₁ at₂ at₃ : ℕ) where
+  then_part : (s t : List ℕ) {a b : List ℕ} (at : ℕ) → at ≡ 2 * length s → a ≡ sets d 0 (pack put2 s) → b ≡ sets a at (pack put2 t) → b ≡ sets d 0 (pack put2 (s ++ t))
+  then_part s t at n f g = rw (pack_append put2 s t) (then d 0 (pack put2 s) (pack put2 t) at (omega (arith, size_numbers s)) f g)
 
-      regroup : (a b c d e : List ℕ) → (((a ++ b) ++ c) ++ d) ++ e ≡ a ++ (b ++ (c ++ (d ++ e)))
-      regroup a b c d e = simp append_assoc
+  regroup : (((h ++ c) ++ r) ++ e) ++ m ≡ h ++ (c ++ (r ++ (e ++ m)))
+  regroup = simp append_assoc
+
+  behind : {v w x y z : List ℕ} → length h ≡ 12 → at₁ ≡ 24 + 2 * length c → at₂ ≡ at₁ + 2 * length r → at₃ ≡ at₂ + 2 * length e →
+      v ≡ sets d 0 (pack put2 h) → w ≡ sets v 24 (pack put2 c) → x ≡ sets w at₁ (pack put2 r) → y ≡ sets x at₂ (pack put2 e) → z ≡ sets y at₃ (pack put2 m) →
+      z ≡ sets d 0 (pack put2 (h ++ (c ++ (r ++ (e ++ m)))))
+  behind long e₁ e₂ e₃ ev ew ex ey ez =
+      let f = then_part h c 24 (omega arith) ev ew in
+      let g = then_part (h ++ c) r at₁ (omega (arith, length-append h c)) f ex in
+      let k = then_part ((h ++ c) ++ r) e at₂ (omega (arith, length-append h c, length-append (h ++ c) r)) g ey in
+      rw (← regroup) (then_part (((h ++ c) ++ r) ++ e) m at₃ (omega (arith, length-append h c, length-append (h ++ c) r, length-append ((h ++ c) ++ r) e)) k ez)
+
+  pub written : (i µ ν g : ℕ) {v w x y z : List ℕ} →
+      h ≡ head_of i µ ν (length c / class_fields) g (length r / row_fields) (length e / edge_fields) (length m) →
+      at₁ ≡ 24 + 2 * length c → at₂ ≡ at₁ + 2 * length r → at₃ ≡ at₂ + 2 * length e →
+      v ≡ sets d 0 (pack put2 h) → w ≡ sets v 24 (pack put2 c) → x ≡ sets w at₁ (pack put2 r) → y ≡ sets x at₂ (pack put2 e) → z ≡ sets y at₃ (pack put2 m) →
+      z ≡ sets d 0 (pack put2 (numbers i µ ν g c r e m))
+  unfolding numbers head_of
+  written i µ ν g is e₁ e₂ e₃ ev ew ex ey ez =
+      behind (ap length is) e₁ e₂ e₃ ev ew ex ey ez ∙ ap (λ (s : List ℕ). sets d 0 (pack put2 (s ++ (c ++ (r ++ (e ++ m)))))) is

@@ -6,7 +6,7 @@ use lib.ListN.{length-take}
 use lib.Seq.{length-take-le}
 use Rattle.meaning.specs.Answers.{into}
 use Rattle.said.proofs.Laws.{gives_this}
-use Rattle.condense.proofs.Laws.{few_items, few_groups, few_classes, map_long, sorted, given, rows_fit, few_links, head_is, bytes_are}
+use Rattle.condense.proofs.Laws.{few_items, few_groups, few_classes, map_long, sorted, given, rows_fit, few_links, bytes_are}
 use Rattle.condense.proofs.put_summary.Goals as goal
 
 pub records-classes-requires : goal.records-classes-requires
@@ -20,28 +20,6 @@ class_links-e-requires c = (
   map_long c.requires,
   omega (arith, c.requires.classes_are, few_classes c.requires),
   omega arith,
-)
-
-pub overflow_cast-of : goal.overflow_cast-of
-overflow_cast-of c = omega (arith, few_classes c.requires)
-
-pub overflow_cast-of-2 : goal.overflow_cast-of-2
-overflow_cast-of-2 c = omega (arith, few_groups c.requires)
-
-pub overflow_cast-of-3 : goal.overflow_cast-of-3
-overflow_cast-of-3 c = omega (arith, (rows_fit c.requires _ _ c.row_numbers-r.ensures).2)
-
-pub overflow_cast-of-4 : goal.overflow_cast-of-4
-overflow_cast-of-4 c = omega (arith, c.class_links-e.ensures.0, few_links c.requires)
-
-pub overflow_cast-of-5 : goal.overflow_cast-of-5
-overflow_cast-of-5 c = omega (arith, few_items c.requires)
-
-pub head-requires : goal.head-requires
-head-requires c = (
-  few_classes c.requires,
-  (rows_fit c.requires _ _ c.row_numbers-r.ensures).2,
-  omega (arith, c.class_links-e.ensures.0, few_links c.requires),
 )
 
 pub slice_bounds-classes-end : goal.slice_bounds-classes-end
@@ -69,13 +47,12 @@ pub slice_bounds-parts-end-3 : goal.slice_bounds-parts-end-3
 slice_bounds-parts-end-3 c = sym (length-take-le _ _ (omega (arith, c.class_links-e.ensures.0, few_links c.requires)))
 
 pub invariant_of-parts : goal.invariant_of-parts
-invariant_of-parts c = record { few = omega (arith, length-take {A = ℕ}, few_items c.requires) }
+invariant_of-parts c = record { few = omega (arith, length-take {A = ℕ}, few_items c.requires, few_groups c.requires, map_long c.requires) }
 
 pub returns : goal.returns
 returns c =
+    let w = c.args.wanted in
     let rows = rows_fit c.requires _ _ c.row_numbers-r.ensures in
-    let links = c.class_links-e.ensures in
-    let head = head_is c.requires c.args.wanted.class_cap c.args.wanted.level rows.0 links.0 c.head.ensures in
     gives_this _ _ _ _ _
-    (ap (into _) (bytes_are c.requires c.args.wanted.class_cap c.args.wanted.level _ head c.records-classes.ensures.numbered rows.1 links.1))
+    (ap (into _) (bytes_are c.requires w.class_cap w.level _ c.records-classes.ensures.numbered rows.1 c.class_links-e.ensures.1))
     c.file.ensures
