@@ -4,16 +4,14 @@ use mathlib.Core.Path.{◌≡◌, sym, subst, ◌∙◌}
 use mathlib.Core.List.{List}
 use Prim.Native.Nat.{ℕ, ◌*◌, ◌≤◌, pred}
 use native.Mathlib.Omega.{arith}
-use lib.ListN.{length, take, length-take}
+use lib.ListN.{length, take}
 use Rattle.meaning.specs.Count.{tab}
 use Rattle.meaning.specs.Register.{Register}
-use Rattle.meaning.specs.Summary.{Summary}
-use Rattle.meaning.specs.Level.{class_list, class_count, alike, Numbering}
+use Rattle.meaning.specs.Level.{class_count, alike, Numbering}
 use Rattle.meaning.specs.Condense.{class_for, summary_by, summary_of}
 use Rattle.meaning.specs.Bytes.{put2, pack}
 use Rattle.meaning.specs.RegisterFile.{register_in}
 use Rattle.meaning.specs.SummaryFile.{summary_bytes}
-use Rattle.theory.proofs.CountLaws.{length_tab}
 use Rattle.theory.proofs.LimitLaws.{rows_most, links_most}
 use Rattle.theory.proofs.ClassListLaws.{class_list_law}
 use Rattle.register.specs.Told.{OfRegister}

@@ -2,7 +2,7 @@
 // on classes, filed and edges for the parts, on summary for the file.
 #![tactic(auto)]
 
-ghost use Rattle.std.specs.Prelude.{◌≤◌, length};
+ghost use Rattle.std.specs.Prelude.{◌≡◌, ◌≤◌, length};
 ghost use Rattle.meaning.specs.Condense.{summary_by, summary_of};
 ghost use Rattle.meaning.specs.RegisterFile.{register_in};
 ghost use Rattle.meaning.specs.SummaryFile.{summary_bytes};
@@ -64,13 +64,14 @@ fn condense_in(
         map,
         &mut rows,
     );
-    let classed = Classified {
+    let items = Classified {
         counts,
-        groups,
+        groups: &*groups,
         map,
-        rows: &rows,
+        starts: &rows.starts,
+        words: &rows.words,
     };
-    put_summary(reg, wanted, &classed, out)
+    put_summary(reg, wanted, &items, out)
 }
 
 // The group and the class of each item, how many there are of each, and the rows of the items.
@@ -79,7 +80,8 @@ struct Classified<'a> {
     counts: alike::Counts,
     groups: &'a [u16],
     map: &'a [u16],
-    rows: &'a Rows,
+    starts: &'a [u16],
+    words: &'a [u64],
 }
 
 // The summary with these groups, and with these classes of some level.
@@ -90,18 +92,13 @@ fn put_summary(
     out: &mut [u8],
 ) -> Result<usize, Refusal>
     requires { Classed reg.now.bytes.now reg.now.items reg.now.links wanted.near_cap items.now.counts.groups items.now.counts.classes
-        items.now.groups.now items.now.map.now items.now.rows.now.starts items.now.rows.now.words }
+        items.now.groups.now items.now.map.now items.now.starts.now items.now.words.now }
     ensures { Gives result out.old out.new (into (length out.old) (summary_bytes
         (summary_by wanted.near_cap wanted.class_cap (register_in reg.now.bytes.now) items.now.groups.now items.now.map.now wanted.level))) }
 {
     let classes = classes::records(reg, items.groups, items.map, wanted.class_cap);
     let mut rows = [0u16; 16384];
-    let r = filed::row_numbers(
-        items.map,
-        &items.rows.starts,
-        &items.rows.words,
-        &mut rows,
-    );
+    let r = filed::row_numbers(items.map, items.starts, items.words, &mut rows);
     let mut edges = [0u16; 6144];
     let e = edges::class_links(reg, items.map, &mut edges);
     let parts = Parts {
