@@ -1,6 +1,6 @@
 -- Why a row is right once the rows behind it are: one law for any row that is written, and what each kind of entry asks of it.
 -- Leans on question's laws of the tree that stands at an entry, and on table's rows.
-use mathlib.Core.Path.{◌≡◌, sym, ap, ap₂, ◌∙◌, subst}
+use mathlib.Core.Path.{◌≡◌, sym, ap, ap₂, ◌∙◌}
 use mathlib.Core.Bool.{Bool, true, false, not, ◌&&◌, ◌||◌}
 use mathlib.Core.List.{List}
 use mathlib.Core.Option.{Option, none, some}
@@ -27,7 +27,7 @@ use Rattle.question.specs.declared.Tree.{Tree}
 use Rattle.question.specs.Read.{Parsed, Spans}
 use Rattle.question.proofs.Laws.{forward, ends, parsed_true, parsed_literal, parsed_not, parsed_and, parsed_or, parsed_least, parsed_one, parsed_question, question_length, everywhere, every_entry}
 use Rattle.table.specs.Row.{row, Writes, paired}
-use Rattle.descent.specs.Around.{Tells}
+use Rattle.descent.specs.Tells.{Tells}
 use Rattle.inquiry.specs.Known.{Whole, Known, pair_kind, asked}
 
 module _ (R : Register) (q : List ℕ) (n j : ℕ) (t u : List Bool) (known : Known R q n t (j + 1)) where
@@ -88,9 +88,6 @@ module _ (R : Register) (q : List ℕ) (n j : ℕ) (t u : List Bool) (known : Kn
 -- nothing stands past the last entry, and row 0 is the question's own
 pub known_none : (R : Register) (q : List ℕ) (n : ℕ) (t : List Bool) → Known R q n t (length q / 4)
 known_none R q n t = record { knows = λ i h u e parsed x k. absurd (omega (arith, forward parsed, ends parsed)) }
-
-pub known_from : (R : Register) (q : List ℕ) (n : ℕ) (t : List Bool) (j k : ℕ) → j ≡ k → Known R q n t j → Known R q n t k
-known_from R q n t j k e known = subst (Known R q n t) e known
 
 pub known_all : (R : Register) (q : List ℕ) (n : ℕ) (t : List Bool) (x : ℕ) → Whole q → x < n → Known R q n t 0 → row t 0 x ≡ asked R (question q) x
 unfolding asked

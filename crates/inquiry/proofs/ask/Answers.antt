@@ -5,4 +5,4 @@ use Rattle.inquiry.proofs.Laws.{told_so}
 use Rattle.inquiry.proofs.ask.Goals as goal
 
 pub returns-in-Ok : goal.returns-in-Ok
-returns-in-Ok c = ap Ok (told_so _ _ _ c.requires.1 _ c.in-Ok.ensures)
+returns-in-Ok c = ap Ok (told_so _ _ _ c.requires.0 _ c.in-Ok.ensures)

@@ -11,4 +11,4 @@ use Rattle.inquiry.proofs.ask_all.Goals as goal
 pub returns : goal.returns
 returns c =
     let e : c.index-at.result ≡ 1024 * 0 + c.args.x.0 = omega arith in
-    ap Ok (ap (λ (i : ℕ). get_or c.fill.new.table i false) e ∙ known_all _ _ c.args.n _ _ c.requires.1 c.requires.2 c.in-Ok.ensures)
+    ap Ok (ap (λ (i : ℕ). get_or c.fill.new.table i false) e ∙ known_all _ _ c.args.reg.now.items _ _ c.requires.0 c.requires.1 c.in-Ok.ensures)
