@@ -1,129 +1,84 @@
 // What the program prints, in document 01's words: "Fields: i, µ, ν, c, g, n; class, marks, group, count; row, edge and map fields in file
 // order, `item` with its number before its class." Every number is read from the summary's file.
-ghost use Rattle.std.specs.Prelude.{◌<◌};
-
-use crate::page;
 use meaning::Refusal;
+use page::{Page, bytes};
+use std::array;
 
 // "A refusal prints the one line `refused` and the number."
-pub fn refused(text: &mut [u8], refusal: Refusal) {
-    let at = page::word(text, 0, b"refused");
-    let at = page::field(text, at, meaning::number(refusal) as u64);
-    let at = page::line(text, at);
-    page::write(text, at);
+pub fn refused(page: &mut Page, refusal: Refusal) {
+    page.put(b"refused");
+    page.field(meaning::number(refusal));
+    page.line();
 }
 
-pub fn whole(text: &mut [u8], s: &[u8]) {
-    let at = head(text, s);
-    let at = classes(text, at, s);
-    let at = rows(text, at, s);
-    let at = edges(text, at, s);
-    let at = items(text, at, s);
-    page::write(text, at);
+pub fn whole(page: &mut Page, s: &[u8]) {
+    let [i, mu, nu, c, g, r, e, n] = header(s);
+    let [class_part, row_part, edge_part, map] = parts(s);
+    head(page, [i, mu, nu, c, g, n]);
+    classes(page, class_part, c);
+    rows(page, row_part, r);
+    edges(page, edge_part, e);
+    items(page, map, n);
 }
 
-fn head(text: &mut [u8], s: &[u8]) -> usize {
-    let at = page::word(text, 0, b"summary");
-    let at = fields(text, at, s, 0, 5);
-    let at = fields(text, at, s, 14, 1);
-    page::line(text, at)
+// "i, µ, ν, class count c, group count g, row count r, class-link count e, item count n".
+fn header(s: &[u8]) -> [u16; 8] {
+    array::from_fn(|k| bytes::two(s, 2 * k))
 }
 
-// So many two-byte numbers from a place.
-fn fields(text: &mut [u8], at: usize, s: &[u8], from: usize, count: u8) -> usize
-    requires { from < 1048576 }
-{
-    let mut now = at;
-    let mut k: u8 = 0;
-    while k < count {
-        now = page::field(text, now, page::two(s, from + 2 * k as usize) as u64);
-        k += 1;
+// "then four offsets": the file from each of them on.
+fn parts(s: &[u8]) -> [&[u8]; 4] {
+    array::from_fn(|k| bytes::from(s, usize::from(bytes::two(s, 16 + 2 * k))))
+}
+
+fn head(page: &mut Page, fields: [u16; 6]) {
+    page.put(b"summary");
+    for field in fields {
+        page.field(field);
     }
-    now
+    page.line();
 }
 
-fn classes(text: &mut [u8], at: usize, s: &[u8]) -> usize {
-    let count = page::two(s, 6);
-    let mut now = at;
-    let mut k: u16 = 0;
-    while k < count {
-        now = class(text, now, s, k);
-        k += 1;
+fn classes(page: &mut Page, part: &[u8], count: u16) {
+    for (k, class) in (0..count).zip(part.chunks_exact(2 * summary::CLASS)) {
+        page.put(b"class");
+        page.field(k);
+        page.field(bytes::four(class, 0));
+        fields(page, bytes::from(class, 4));
+        page.line();
     }
-    now
 }
 
-fn class(text: &mut [u8], at: usize, s: &[u8], k: u16) -> usize {
-    let from = page::two(s, 16) as usize + 2 * summary::CLASS * k as usize;
-    let at = page::word(text, at, b"class");
-    let at = page::field(text, at, k as u64);
-    let at = page::field(text, at, page::four(s, from));
-    let at = fields(text, at, s, from + 4, 2);
-    page::line(text, at)
-}
-
-fn rows(text: &mut [u8], at: usize, s: &[u8]) -> usize {
-    let count = page::two(s, 10);
-    let from = page::two(s, 18) as usize;
-    let mut now = at;
-    let mut k: u16 = 0;
-    while k < count {
-        now = record(
-            text,
-            now,
-            b"row",
-            s,
-            from + 2 * summary::ROW * k as usize,
-            4,
-        );
-        k += 1;
+fn rows(page: &mut Page, part: &[u8], count: u16) {
+    let records = part.chunks_exact(2 * summary::ROW);
+    for row in records.take(usize::from(count)) {
+        page.put(b"row");
+        fields(page, row);
+        page.line();
     }
-    now
 }
 
-fn edges(text: &mut [u8], at: usize, s: &[u8]) -> usize {
-    let count = page::two(s, 12);
-    let from = page::two(s, 20) as usize;
-    let mut now = at;
-    let mut k: u16 = 0;
-    while k < count {
-        now = record(
-            text,
-            now,
-            b"edge",
-            s,
-            from + 2 * summary::EDGE * k as usize,
-            3,
-        );
-        k += 1;
+fn edges(page: &mut Page, part: &[u8], count: u16) {
+    let records = part.chunks_exact(2 * summary::EDGE);
+    for edge in records.take(usize::from(count)) {
+        page.put(b"edge");
+        fields(page, edge);
+        page.line();
     }
-    now
 }
 
-// A record whose fields are all two-byte numbers.
-fn record(text: &mut [u8], at: usize, word: &[u8], s: &[u8], from: usize, count: u8) -> usize
-    requires { from < 1048576 }
-{
-    let at = page::word(text, at, word);
-    let at = fields(text, at, s, from, count);
-    page::line(text, at)
-}
-
-fn items(text: &mut [u8], at: usize, s: &[u8]) -> usize {
-    let count = page::two(s, 14);
-    let mut now = at;
-    let mut x: u16 = 0;
-    while x < count {
-        now = item(text, now, s, x);
-        x += 1;
+fn items(page: &mut Page, part: &[u8], count: u16) {
+    for (x, class) in (0..count).zip(part.chunks_exact(2)) {
+        page.put(b"item");
+        page.field(x);
+        fields(page, class);
+        page.line();
     }
-    now
 }
 
-fn item(text: &mut [u8], at: usize, s: &[u8], x: u16) -> usize {
-    let from = page::two(s, 22) as usize + 2 * x as usize;
-    let at = page::word(text, at, b"item");
-    let at = page::field(text, at, x as u64);
-    let at = page::field(text, at, page::two(s, from) as u64);
-    page::line(text, at)
+// All that stands there, two-byte numbers.
+fn fields(page: &mut Page, b: &[u8]) {
+    for n in b.chunks_exact(2) {
+        page.field(bytes::two(n, 0));
+    }
 }

@@ -3,34 +3,34 @@
 #![tactic(auto)]
 
 use meaning::Refusal;
+use page::{Page, bytes};
 use said::Wrote;
 
 mod listing;
-mod page;
 
 fn main() {
+    let mut page = Page::new();
     let mut asked = [0u8; 6];
-    let got = io::read_full(0, &mut asked);
-    let mut text = io::large_buffer();
-    if got < 6 {
+    if io::read_full(0, &mut asked) < asked.len() {
         // "Input under six bytes is refused 1."
-        listing::refused(&mut text, Refusal::Header);
-        return;
+        listing::refused(&mut page, Refusal::Header);
+    } else {
+        answer(&mut page, &asked);
     }
-    answer(&asked, &mut text);
+    page.write();
 }
 
 // The rest of the input is the register; with the six bytes before it "at most 16,403 bytes are read", one more than an accepted register has.
-fn answer(asked: &[u8], text: &mut [u8]) {
+fn answer(page: &mut Page, asked: &[u8; 6]) {
     let mut reg = [0u8; 16397];
     let len = io::read_full(0, &mut reg);
     let mut out = [0u8; 55320];
-    let i = page::two(asked, 0);
-    let mu = page::two(asked, 2);
-    let nu = page::two(asked, 4);
+    let i = bytes::two(asked, 0);
+    let mu = bytes::two(asked, 2);
+    let nu = bytes::two(asked, 4);
     let wrote = hestovane::condense(&reg[..len], i, mu, nu, &mut out);
     match wrote {
-        Wrote::Length(_) => listing::whole(text, &out),
-        Wrote::Refused(refusal) => listing::refused(text, refusal),
+        Wrote::Length(_) => listing::whole(page, &out),
+        Wrote::Refused(refusal) => listing::refused(page, refusal),
     }
 }

@@ -1,10 +1,13 @@
 // The commands that make the proved calls, on the kept files, and what is told of them: a letter, or an answer of three words.
 use meaning::Refusal;
+use page::Page;
 use register::Judged;
 use said::{Said, Wrote};
+use trial_cases::command::Caps;
+use trial_cases::file::{File, SIZE};
 use trial_cases::kept::Kept;
 use trial_cases::told::Told;
-use trial_cases::{bytes, files, lent, page, told};
+use trial_cases::{Stopped, lent};
 
 // "`y` or `n` for what a check or a question says, or the digit of the refusal".
 fn letter(said: Said) -> u8 {
@@ -15,133 +18,105 @@ fn letter(said: Said) -> u8 {
     }
 }
 
-// The letter of a check, or of the question asked at the item.
-fn said(what: u8, item: u16, files: &[u8], kept: Kept) -> u8 {
-    let register = files::of(files, kept.register);
-    let summary = files::of(files, kept.summary);
-    let question = files::of(files, kept.question);
-    match what {
-        b'k' => letter(hestovane::check(register, summary)),
-        b'b' => letter(hestovane::ask_summary(summary, question, item)),
-        _ => letter(hestovane::ask_register(register, question, item)),
-    }
+pub fn check(kept: &Kept, told: &mut Told) {
+    told.hear(letter(hestovane::check(kept.register.bytes(), kept.summary.bytes())));
 }
 
-// "asked .. at k items in turn, from the item number on"; checked once.
-pub fn letters(b: &[u8], files: &[u8], page: &mut [u8], kept: Kept, told: Told) -> Told {
-    let what = bytes::one(b, 0);
-    let count = times(b);
-    let mut now = told;
-    let mut k: u8 = 0;
-    while k < count {
-        let item = std::num::wrapping_add_u16(kept.item, k as u16);
-        now = told::hear(page, now, said(what, item, files, kept));
-        k += 1;
-    }
-    now
+pub fn ask_register(kept: &Kept, told: &mut Told, times: u8) {
+    in_turn(kept.item, times, told, |item| {
+        hestovane::ask_register(kept.register.bytes(), kept.question.bytes(), item)
+    });
 }
 
-fn times(b: &[u8]) -> u8 {
-    if bytes::one(b, 0) == b'k' {
-        1
-    } else {
-        bytes::one(b, 1)
+pub fn ask_summary(kept: &Kept, told: &mut Told, times: u8) {
+    in_turn(kept.item, times, told, |item| {
+        hestovane::ask_summary(kept.summary.bytes(), kept.question.bytes(), item)
+    });
+}
+
+// "asked .. at k items in turn, from the item number on".
+fn in_turn<F: Fn(u16) -> Said>(item: u16, times: u8, told: &mut Told, ask: F)
+    requires { F.IsAlwaysCallable ask }
+{
+    for k in 0..times {
+        told.hear(letter(ask(item.wrapping_add(u16::from(k)))));
     }
 }
 
 // "the byte at the place of the question becomes 0, 1, .. 255 in turn, and after each the question is asked".
-pub fn sweep(place: u16, files: &mut [u8], page: &mut [u8], kept: Kept, told: Told) -> Told {
-    let f = kept.question;
-    let at = f.start() + place as usize;
-    let mut now = told;
-    let mut value: u16 = 0;
-    while value < 256 {
-        bytes::put(files, at, value as u8);
-        now = told::hear(page, now, said(b'a', kept.item, files, kept));
-        value += 1;
+pub fn sweep(kept: &mut Kept, told: &mut Told, place: u16) -> Result<(), Stopped> {
+    for value in 0..=255 {
+        kept.question.set(place, value)?;
+        ask_register(kept, told, 1);
     }
-    now
+    Ok(())
 }
 
-pub fn judge(files: &[u8], page: &mut [u8], kept: Kept, told: Told) -> Told {
-    let judged = register::judge(files::of(files, kept.register));
-    told.on(told_judged(page, told.page, judged))
-}
-
-fn told_judged(page: &mut [u8], at: usize, judged: Judged) -> usize {
+pub fn judge(kept: &Kept, told: &mut Told) {
+    let judged = register::judge(kept.register.bytes());
     match judged {
         Judged::Accepted { items, links } => {
-            let at = bytes::put_all(page, at, b"accepted");
-            let at = page::field(page, at, items as u64);
-            page::field(page, at, links as u64)
+            told.page.put(b"accepted");
+            told.page.field(items as u64);
+            told.page.field(links as u64);
         }
-        Judged::Refused(refusal) => told_refused(page, at, refusal),
+        Judged::Refused(refusal) => tell_refused(&mut told.page, refusal),
     }
 }
 
-fn told_refused(page: &mut [u8], at: usize, refusal: Refusal) -> usize {
-    let at = bytes::put_all(page, at, b"refused");
-    page::field(page, at, meaning::number(refusal) as u64)
+fn tell_refused(page: &mut Page, refusal: Refusal) {
+    page.put(b"refused");
+    page.field(meaning::number(refusal));
 }
 
-fn told_wrote(page: &mut [u8], at: usize, wrote: Wrote) -> usize {
-    match wrote {
-        Wrote::Length(length) => {
-            let at = bytes::put_all(page, at, b"wrote");
-            page::field(page, at, length as u64)
-        }
-        Wrote::Refused(refusal) => told_refused(page, at, refusal),
-    }
+pub fn condense(kept: &Kept, told: &mut Told) {
+    answer(kept.room, told, |out| condensed(kept, out));
+}
+
+// "condensed at level and caps".
+fn condensed(kept: &Kept, out: &mut [u8]) -> Wrote {
+    let Caps { level, mu, nu } = kept.caps;
+    hestovane::condense(kept.register.bytes(), level, mu, nu, out)
+}
+
+pub fn list(kept: &Kept, told: &mut Told) {
+    answer(kept.room, told, |out| {
+        hestovane::list(kept.summary.bytes(), kept.question.bytes(), out)
+    });
 }
 
 // "into a buffer of `room` bytes".
-pub fn answer(what: u8, files: &[u8], page: &mut [u8], kept: Kept, told: Told) -> Told {
-    let mut out = [0u8; 65536];
-    let room = kept.room as usize;
-    let lent = lend(what, files, kept, &mut out[0..room]);
-    let wrote = lent.wrote;
-    let at = told_wrote(page, told.page, wrote);
-    told.on(page::field(page, at, lent.hash))
-}
-
-// What a call wrote into a lent buffer, and the hash of the buffer after it.
-#[derive(Clone, Copy)]
-struct Lent {
-    wrote: Wrote,
-    hash: u64,
-}
-
-fn lend(what: u8, files: &[u8], kept: Kept, out: &mut [u8]) -> Lent {
+fn answer<F: FnOnce(&mut [u8]) -> Wrote>(room: u16, told: &mut Told, call: F)
+    requires { F.IsAlwaysCallable call }
+{
+    let mut out = [0u8; SIZE];
+    let out = &mut out[..usize::from(room)];
     lent::fill(out);
-    let wrote = write(what, files, kept, out);
-    let hash = lent::hash(out);
-    Lent { wrote, hash }
+    let wrote = call(out);
+    tell_wrote(&mut told.page, wrote);
+    told.page.field(lent::hash(out));
 }
 
-// Condensing or listing.
-fn write(what: u8, files: &[u8], kept: Kept, out: &mut [u8]) -> Wrote {
-    let register = files::of(files, kept.register);
-    let summary = files::of(files, kept.summary);
-    let question = files::of(files, kept.question);
-    match what {
-        b'l' => hestovane::list(summary, question, out),
-        _ => hestovane::condense(register, kept.level, kept.mu, kept.nu, out),
+fn tell_wrote(page: &mut Page, wrote: Wrote) {
+    match wrote {
+        Wrote::Length(length) => {
+            page.put(b"wrote");
+            page.field(length as u64);
+        }
+        Wrote::Refused(refusal) => tell_refused(page, refusal),
     }
 }
 
 // "the summary becomes what condensing the register at level and caps writes, and empty where that is refused".
-pub fn make(files: &mut [u8], kept: Kept) -> Kept {
-    let mut out = [0u8; 65536];
-    let wrote = write(b'm', files, kept, &mut out);
-    let len = length(wrote);
-    let f = kept.summary;
-    bytes::put_all(files, f.start(), bytes::part(&out, 0, len as usize));
-    kept.with_length(b's', len)
+pub fn make(kept: &mut Kept) {
+    let mut out = [0u8; SIZE];
+    let wrote = condensed(kept, &mut out);
+    kept.summary = File::new(out, length(wrote));
 }
 
 fn length(wrote: Wrote) -> u16 {
     match wrote {
-        Wrote::Length(length) => bytes::within(length, 65535) as u16,
+        Wrote::Length(length) => length.min(65535) as u16,
         Wrote::Refused(_) => 0,
     }
 }

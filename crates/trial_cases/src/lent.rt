@@ -3,29 +3,17 @@
 
 // "its byte at place p is (7p + 5) mod 256".
 pub fn fill(out: &mut [u8]) {
-    let mut p = 0;
-    while p < out.len() {
-        out[p] = filler(p);
-        p += 1;
+    for (p, b) in out.iter_mut().enumerate() {
+        *b = ((p % 256 * 7 + 5) % 256) as u8;
     }
-}
-
-fn filler(p: usize) -> u8 {
-    ((7 * (p % 256) + 5) % 256) as u8
 }
 
 // "that of every byte of the buffer after the call: it starts at 0".
-pub fn hash(out: &[u8]) -> u64 {
-    let mut sum = 0;
-    let mut p = 0;
-    while p < out.len() {
-        sum = hashed(sum, out[p]);
-        p += 1;
-    }
-    sum
+pub fn hash(out: &[u8]) -> u32 {
+    out.iter().fold(0, |sum, b| hashed(sum, *b))
 }
 
 // "for each byte in turn it becomes (hash * 65599 + byte + 1) mod 2^32".
-pub fn hashed(sum: u64, b: u8) -> u64 {
-    (sum % 4294967296 * 65599 + b as u64 + 1) % 4294967296
+pub fn hashed(sum: u32, b: u8) -> u32 {
+    sum.wrapping_mul(65599).wrapping_add(u32::from(b) + 1)
 }

@@ -1,87 +1,62 @@
-// What is told: how far the page is printed, and the tally of letters that are counted instead. Leans on page and on lent for the hash.
-ghost use Rattle.std.specs.Prelude.{◌<◌};
+// What is told: the page, and the tally of letters that are counted where it is open and not printed.
+use crate::lent;
+use page::Page;
 
-use crate::{bytes, lent, page};
-
-// `page` bytes stand on the page. `said` counts y, n, 6 and others: four numbers of the first, third, fifth .. letters, and four of the second,
-// fourth, ..
-#[derive(Clone, Copy)]
+#[derive(Drop)]
 pub struct Told {
-    pub page: usize,
-    pub open: bool,
-    pub letters: u64,
-    pub said: [u64; 8],
-    pub hash: u64,
+    pub page: Page,
+    tally: Option<Tally>,
+}
+
+// How many letters came, how many of the first, third, fifth .. and of the second, fourth, .. are `y`, `n`, `6`, and the hash of all.
+#[derive(Clone, Copy, Default)]
+struct Tally {
+    letters: u64,
+    counts: [[u64; 3]; 2],
+    hash: u32,
 }
 
 impl Told {
-    // The tally starts anew.
-    pub fn new(page: usize, open: bool) -> Told {
+    pub fn new() -> Told {
         Told {
-            page,
-            open,
-            letters: 0,
-            said: [0; 8],
-            hash: 0,
+            page: Page::new(),
+            tally: None,
         }
     }
 
-    pub fn on(mut self, page: usize) -> Told {
-        self.page = page;
-        self
+    // "The tally starts anew where it is opened twice".
+    pub fn open(&mut self) {
+        self.tally = Some(Tally::default());
     }
 
-    pub fn counted(self, letter: u8) -> Told {
-        let mut said = self.said;
-        let k = (self.letters % 2 * 4) as usize + column(letter);
-        said[k] = std::num::wrapping_add_u64(said[k], 1);
-        Told {
-            page: self.page,
-            open: self.open,
-            letters: std::num::wrapping_add_u64(self.letters, 1),
-            said,
-            hash: lent::hashed(self.hash, letter),
+    // A letter more, printed or counted.
+    pub fn hear(&mut self, letter: u8) {
+        match &mut self.tally {
+            Some(tally) => tally.count(letter),
+            None => self.page.byte(letter),
         }
     }
-}
 
-fn column(letter: u8) -> usize
-    ensures { result < 4 }
-{
-    match letter {
-        b'y' => 0,
-        b'n' => 1,
-        b'6' => 2,
-        _ => 3,
+    // "where it is closed and was not open its numbers are 0".
+    pub fn close(&mut self) {
+        let tally = self.tally.take().unwrap_or_default();
+        self.page.number(tally.letters / 2);
+        for count in tally.counts.as_flattened() {
+            self.page.field(*count);
+        }
+        self.page.field(tally.hash);
     }
 }
 
-pub fn print(page: &mut [u8], t: Told, words: &[u8]) -> Told {
-    t.on(bytes::put_all(page, t.page, words))
-}
-
-// A letter more, printed or counted.
-pub fn hear(page: &mut [u8], t: Told, letter: u8) -> Told {
-    if t.open {
-        return t.counted(letter);
+impl Tally {
+    fn count(&mut self, letter: u8) {
+        let counts = &mut self.counts[(self.letters % 2) as usize];
+        for (count, counted) in counts.iter_mut().zip(b"yn6") {
+            if letter == *counted {
+                *count = count.wrapping_add(1);
+            }
+        }
+        self.letters = self.letters.wrapping_add(1);
+        self.hash = lent::hashed(self.hash, letter);
     }
-    t.on(bytes::put(page, t.page, letter))
-}
-
-// "half the number of letters; how many of the first, third, fifth .. letters are `y`, `n`, `6`; how many of the second, fourth, .. are;
-// the hash of all letters".
-pub fn close(page: &mut [u8], t: Told) -> Told {
-    let said = t.said;
-    let at = page::number(page, t.page, t.letters / 2);
-    let at = three(page, at, &said, 0);
-    let at = three(page, at, &said, 4);
-    Told::new(page::field(page, at, t.hash), false)
-}
-
-fn three(page: &mut [u8], at: usize, said: &[u64; 8], from: usize) -> usize
-    requires { from < 6 }
-{
-    let at = page::field(page, at, said[from]);
-    let at = page::field(page, at, said[from + 1]);
-    page::field(page, at, said[from + 2])
 }

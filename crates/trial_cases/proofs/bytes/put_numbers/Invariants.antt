@@ -1,9 +1,0 @@
--- The loop ends, and what is lent keeps its length.
-use Rattle.std.proofs.Common.{◌≡◌, ◌-◌, ◌≤◌, length}
-use Rattle.trial_cases.proofs.bytes.put_numbers.Given as goal
-
-abbrev pub invariant-loop-k : goal.invariant-loop-k
-invariant-loop-k l = (l.k ≤ length l.values) × (length l.b ≡ length l.initial.b)
-
-abbrev pub decreases-loop-k : goal.decreases-loop-k
-decreases-loop-k l = length l.values - l.k
