@@ -103,7 +103,7 @@ pub fn levels(
         },
     );
     let mut groups = classes;
-    for j in 0..i {
+    for _ in 0..i {
         copy_classes(upper, lower);
         groups = classes;
         classes = step(
