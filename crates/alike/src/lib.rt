@@ -31,16 +31,11 @@ pub fn step(
         × RowsStand (register_in reg.now.bytes.now) mu cs.now reg.now.items rows.new.starts rows.new.words }
 {
     let Room { keys, other } = room;
-    surround::put_item_rows(
-        reg,
-        mu,
-        cs,
-        rows,
-        Room {
-            keys: &mut *keys,
-            other: &mut *other,
-        },
-    );
+    let lent = Room {
+        keys: &mut *keys,
+        other: &mut *other,
+    };
+    surround::put_item_rows(reg, mu, cs, rows, lent);
     let signatures = Signatures {
         groups: cs,
         starts: &rows.starts,
@@ -94,29 +89,20 @@ pub fn levels(
 {
     let mut keys = [0u64; 4096];
     let mut other = [0u64; 4096];
-    let mut classes = marked::by_marks(
-        reg,
-        upper,
-        Room {
-            keys: &mut keys,
-            other: &mut other,
-        },
-    );
+    let room = Room {
+        keys: &mut keys,
+        other: &mut other,
+    };
+    let mut classes = marked::by_marks(reg, upper, room);
     let mut groups = classes;
-    for j in 0..i {
+    for _ in 0..i {
         copy_classes(upper, lower);
         groups = classes;
-        classes = step(
-            reg,
-            mu,
-            lower,
-            upper,
-            rows,
-            Room {
-                keys: &mut keys,
-                other: &mut other,
-            },
-        );
+        let room = Room {
+            keys: &mut keys,
+            other: &mut other,
+        };
+        classes = step(reg, mu, lower, upper, rows, room);
         if same_classes(lower, upper) {
             break;
         }

@@ -1,4 +1,4 @@
--- After j steps upper has the list of level j, and lower that of the level before (`Going`).
+-- After j steps, which the counter counts, upper has the list of level j, and lower that of the level before (`Going`).
 use Rattle.alike.proofs.ByLevel.{going_next, ended, of_level}
 use native.Mathlib.Omega.{arith}
 use mathlib.Core.Path.{◌∙◌}
@@ -9,31 +9,31 @@ use Rattle.alike.proofs.levels.Goals as goal
 pub step-classes-requires : goal.step-classes-requires
 step-classes-requires c =
     let reg = c.args.reg.now in
-    let l = c.loop-j in (
-      of_level (register_in reg.bytes.now) c.args.mu reg.items reg.accepted.items_are l.j _ reg.few_items (c.copy_classes.ensures ∙ l.invariant.upper_is),
+    let l = c.loop in (
+      of_level (register_in reg.bytes.now) c.args.mu reg.items reg.accepted.items_are l.counter _ reg.few_items (c.copy_classes.ensures ∙ l.invariant.upper_is),
       omega arith,
       omega arith,
       omega arith,
     )
 
-pub loop-j-preserved : goal.loop-j-preserved
-loop-j-preserved c =
+pub loop-preserved : goal.loop-preserved
+loop-preserved c =
     let reg = c.args.reg.now in
-    let l = c.loop-j in
+    let l = c.loop in
     let o = reg.accepted in
     let r = c.step-classes.ensures in
-    going_next (register_in reg.bytes.now) c.args.mu reg.items o.items_are (of_fine reg.bytes.now reg.items reg.links o) l.j
+    going_next (register_in reg.bytes.now) c.args.mu reg.items o.items_are (of_fine reg.bytes.now reg.items reg.links o) l.counter
     l.lower l.upper l.groups l.classes l.rows.starts l.rows.words l.invariant _ _ _ _ _ c.copy_classes.ensures r.0 r.1 r.2
 
 pub returns-then-same_classes : goal.returns-then-same_classes
 returns-then-same_classes c =
     let reg = c.args.reg.now in
-    let l = c.loop-j in
+    let l = c.loop in
     let o = reg.accepted in
     let fine = of_fine reg.bytes.now reg.items reg.links o in
     let R = register_in reg.bytes.now in
     let r = c.step-classes.ensures in
     let g =
-    going_next R c.args.mu reg.items o.items_are fine l.j
+    going_next R c.args.mu reg.items o.items_are fine l.counter
     l.lower l.upper l.groups l.classes l.rows.starts l.rows.words l.invariant _ _ _ _ _ c.copy_classes.ensures r.0 r.1 r.2 in
-    ended R c.args.mu reg.items o.items_are fine l.j c.args.i _ _ _ _ _ _ c.loop-j-test.true (c.same_classes.ensures c.if-same_classes.true) g
+    ended R c.args.mu reg.items o.items_are fine l.counter c.args.i _ _ _ _ _ _ c.loop-test.true (c.same_classes.ensures c.if-same_classes.true) g
