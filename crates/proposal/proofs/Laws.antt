@@ -2,7 +2,7 @@
 use mathlib.Core.Path.{◌≡◌, sym, ◌∙◌}
 use mathlib.Core.Bool.{Bool, true, false, ◌&&◌, and-false}
 use Prim.Native.Nat.{ℕ}
-use borrow.Author.Tests.{eq-eqb, ne_eqb}
+use borrow.Author.Tests.{eq-eqb}
 use lib.Dec.{eqb}
 use lib.ListN.{length}
 use Rattle.meaning.specs.Count.{tally, all, each}
@@ -47,18 +47,6 @@ module _ (R : Register) (S : Summary) (n : ℕ) (n_is : n ≡ items R) where
   five : items_agree && marks_equal && counts_equal && links_equal && rows_equal ≡ fits R S
   unfolding fits
   five = rw n_is
-
-  pub no_items : (length S.map ≡ n → ⊥) → false ≡ fits R S
-  no_items h = not_first items_agree marks_equal counts_equal links_equal rows_equal (ne_eqb (length S.map) n h) ∙ five
-
-  pub no_marks : marks_equal ≡ false → false ≡ fits R S
-  no_marks e = not_second items_agree marks_equal counts_equal links_equal rows_equal e ∙ five
-
-  pub no_counts : counts_equal ≡ false → false ≡ fits R S
-  no_counts e = not_third items_agree marks_equal counts_equal links_equal rows_equal e ∙ five
-
-  pub no_links : links_equal ≡ false → false ≡ fits R S
-  no_links e = not_fourth items_agree marks_equal counts_equal links_equal rows_equal e ∙ five
 
   pub only_rows : length S.map ≡ n → marks_equal ≡ true → counts_equal ≡ true → links_equal ≡ true → rows_equal ≡ fits R S
   only_rows h e f g = only_fifth items_agree marks_equal counts_equal links_equal rows_equal (eq-eqb (length S.map) n h) e f g ∙ five

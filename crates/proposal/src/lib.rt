@@ -2,31 +2,37 @@
 // numbering may be proposed, and the level field is not judged." Leans on counted, images and rowwise for its parts.
 #![tactic(auto)]
 
-ghost use Rattle.std.specs.Prelude.{◌≡◌, true, length};
+ghost use Rattle.std.specs.Prelude.{◌≡◌};
 ghost use Rattle.meaning.specs.Check.{fits};
 ghost use Rattle.meaning.specs.RegisterFile.{register_in};
-ghost use Rattle.meaning.specs.SummaryFile.{summary_in, well_formed_file};
-ghost use Rattle.register.specs.Told.{OfRegister};
-ghost use Rattle.matching.specs.Keys.{Keyed};
+ghost use Rattle.meaning.specs.SummaryFile.{summary_in};
+
+use header::WellFormed;
+use proposed::Proposal;
+use register::Register;
 
 // Whether the proposed map is an abstraction of the register: for any grouping and numbering, and whatever the level field says.
-pub fn check(reg: &[u8], n: usize, m: usize, s: &[u8], keys: &[u64]) -> bool
-    requires { OfRegister reg.now n m × (well_formed_file s.now ≡ true) × (length keys.now ≡ 4096) × Keyed true (summary_in s.now) keys.now }
-    ensures { result ≡ fits (register_in reg.now) (summary_in s.now) }
+#[tactic(auto, using(proposed::proofs::Laws::proposed), unfolding(meaning::specs::Check::fits))]
+pub fn check(reg: &Register, s: &WellFormed) -> bool
+    ensures { result ≡ fits (register_in reg.now.bytes.now) (summary_in s.now.summary.bytes.now) }
 {
-    if reader::items(s) != n {
+    if s.summary.items() != reg.items {
         return false;
     }
-    let mu = reader::near_cap(s) as u8;
-    let nu = reader::class_cap(s) as u8;
-    if !counted::marks_equal(reg, n, s) {
+    let proposal = Proposal {
+        register: *reg,
+        summary: s.summary,
+    };
+    let mu = s.summary.near_cap() as u8;
+    let nu = s.summary.class_cap() as u8;
+    if !counted::marks_equal(&proposal) {
         return false;
     }
-    if !counted::counts_equal(n, s, nu) {
+    if !counted::counts_equal(&proposal, nu) {
         return false;
     }
-    if !images::links_are_images(reg, n, m, s) {
+    if !images::links_are_images(&proposal) {
         return false;
     }
-    rowwise::rows_equal(reg, n, m, s, mu, keys)
+    rowwise::rows_equal(reg, s, mu)
 }

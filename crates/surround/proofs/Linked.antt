@@ -4,7 +4,6 @@ use prog.Wired.{Code}
 use prog.Linked.{Tree, World, Holds, in_world}
 use prog.LinkedThreads.{HasT}
 use Rattle.surround.proofs.TheLink
-use Rattle.surround.proofs.item_rows.Symbol as item_rows-symbol
 use Rattle.surround.proofs.put_item_rows.Symbol as put_item_rows-symbol
 
 abbrev pub table : Tree
@@ -15,9 +14,6 @@ Below = TheLink.Below
 
 abbrev pub Found : Code → Type 0
 Found c = (W : World) → Holds W "surround" table → Below W → HasT (in_world W) true c
-
-pub has-item_rows : Found item_rows-symbol.code
-has-item_rows = TheLink.linked-surround::item_rows
 
 pub has-put_item_rows : Found put_item_rows-symbol.code
 has-put_item_rows = TheLink.linked-surround::put_item_rows

@@ -72,31 +72,3 @@ pub fn put_item_rows(reg: &Register, mu: u8, cs: &[u16], rows: &mut Rows, room: 
     sort_keys(reg, cs, keys, other);
     rows::put_rows(keys, reg.items, mu, &mut rows.words, &mut rows.starts);
 }
-
-// The same of bytes that a caller knows to be an accepted register of n items and m links, and with the parts of the records one by one.
-pub fn item_rows(
-    reg: &[u8],
-    n: usize,
-    m: usize,
-    mu: u8,
-    cs: &[u16],
-    rows: &mut [u64],
-    starts: &mut [u16],
-    keys: &mut [u64],
-    other: &mut [u64],
-)
-    requires { OfRegister reg.now n m × OfClasses cs.now n × (mu ≤ 7)
-        × (2 * m ≤ length rows.old) × (n < length starts.old) × (2 * m ≤ length keys.old) × (2 * m ≤ length other.old) }
-    ensures { (rows.new ≡ join (item_rows_word (register_in reg.now) mu (take n cs.now)) n
-        ++ drop (item_start (register_in reg.now) mu (take n cs.now) n) rows.old)
-        × (starts.new ≡ tab (item_start (register_in reg.now) mu (take n cs.now)) (n + 1) ++ drop (n + 1) starts.old) }
-{
-    let reg = Register {
-        bytes: reg,
-        items: n,
-        links: m,
-    };
-    let keys = &mut keys[..2 * m];
-    sort_keys(&reg, &cs[..n], keys, other);
-    rows::put_rows(keys, n, mu, rows, starts);
-}

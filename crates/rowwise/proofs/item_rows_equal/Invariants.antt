@@ -1,7 +1,7 @@
 -- Every item passed has the rows of its class.
 use mathlib.Core.Path.{◌≡◌}
 use mathlib.Core.Bool.{true}
-use Prim.Native.Nat.{ℕ, ◌+◌, ◌-◌, ◌≤◌, ◌<◌}
+use Prim.Native.Nat.{ℕ, ◌+◌, ◌<◌}
 use lib.ListN.{get_or}
 use Rattle.meaning.specs.Summary.{class_at}
 use Rattle.meaning.specs.SummaryFile.{summary_in}
@@ -10,8 +10,5 @@ use Rattle.rowwise.proofs.item_rows_equal.Given as goal
 
 abbrev pub invariant-loop-x : goal.invariant-loop-x
 invariant-loop-x l =
-    (l.x ≤ l.n) ×
-    ((y : ℕ) → y < l.x → same_words l.words (get_or l.starts y 0) (get_or l.starts (y + 1) 0) (class_rows (class_at (summary_in l.s) y) (summary_in l.s).rows) ≡ true)
-
-abbrev pub decreases-loop-x : goal.decreases-loop-x
-decreases-loop-x l = l.n - l.x
+    let S = summary_in l.s.summary.bytes.now in
+    (y : ℕ) → y < l.x → same_words l.words (get_or l.starts y 0) (get_or l.starts (y + 1) 0) (class_rows (class_at S y) S.rows) ≡ true

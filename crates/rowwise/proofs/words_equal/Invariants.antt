@@ -1,7 +1,7 @@
 -- Every word passed is that of its row.
 use mathlib.Core.Path.{◌≡◌}
 use mathlib.Core.Bool.{true}
-use Prim.Native.Nat.{ℕ, ◌+◌, ◌-◌, ◌≤◌, ◌<◌}
+use Prim.Native.Nat.{ℕ, ◌+◌, ◌<◌}
 use lib.Dec.{eqb}
 use lib.ListN.{get_or}
 use Rattle.meaning.specs.Summary.{row_of}
@@ -10,7 +10,4 @@ use Rattle.surround.specs.Surroundings.{word_of}
 use Rattle.rowwise.proofs.words_equal.Given as goal
 
 abbrev pub invariant-loop-j : goal.invariant-loop-j
-invariant-loop-j l = (l.j ≤ l.count) × ((i : ℕ) → i < l.j → eqb (get_or l.words (l.from + i) 0) (word_of (row_of (summary_in l.s) (l.low + i))) ≡ true)
-
-abbrev pub decreases-loop-j : goal.decreases-loop-j
-decreases-loop-j l = l.count - l.j
+invariant-loop-j l = (i : ℕ) → i < l.j → eqb (get_or l.words (l.from + i) 0) (word_of (row_of (summary_in l.s.summary.bytes.now) (l.low + i))) ≡ true
