@@ -1,7 +1,7 @@
 // Whether a question holds at a class of a summary: "whether an entry holds asks for a count of neighbours, and that count asks whether the
 // operand holds". Leans on entry and question for what is asked, on header for the well-formed summary, on window for a class's rows and a
 // group's lowest class, and on memo for what was said.
-#![tactic(auto)]
+#![tactic(auto, using(crate::proofs::Laws::consulted))]
 
 ghost use Rattle.std.specs.Prelude.{◌≡◌, ℕ, cond, ◌+◌, ◌≤◌, ◌<◌, length, get_or};
 ghost use Rattle.meaning.specs.Summary.{lowest_class};
@@ -69,7 +69,6 @@ pub fn put_answers(
 
 impl Consulted<'_> {
     // Class by class.
-    #[tactic(auto, using(header::proofs::File::few_classes))]
     fn put_each(&self, known: &mut [u8], first: Class, answers: &mut [bool]) -> Result<(), Refusal>
         requires { Remembers self.now.question.now (summary_in self.now.read.summary.bytes.now) known.old
             × (first.0 + length answers.old ≤ length (summary_in self.now.read.summary.bytes.now).classes) }

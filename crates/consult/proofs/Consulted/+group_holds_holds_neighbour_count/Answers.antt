@@ -11,28 +11,15 @@ use Rattle.meaning.specs.declared.Kind.TheVariants.{Literal}
 use Rattle.meaning.specs.SummaryFile.{summary_in}
 use Rattle.entry.proofs.Laws.{literal_back, literal_read, least_read}
 use Rattle.question.proofs.Steps.{no_first, spans_none}
-use Rattle.header.proofs.File.{groups_file}
 use Rattle.memo.specs.Kept.{recalled}
-use Rattle.memo.proofs.Laws.{says_true, says_literal, says_not, says_first, spans_on, recalled_so, remembers_kept}
-use Rattle.consult.proofs.Laws.{truth, holds_second, says_least, summed_none, one_summed, sum_most, added_most, row_grouped, group_few, lowest_asked}
+use Rattle.memo.proofs.Laws.{says_true, says_literal, says_not, says_first, recalled_so, remembers_kept}
+use Rattle.consult.proofs.Laws.{truth, holds_second, says_least, one_summed, added_most, group_few}
 use Rattle.consult.proofs.Consulted.+group_holds_holds_neighbour_count.Goals as goal
-
-pub group_holds-slot_of-slot-requires : goal.group_holds-slot_of-slot-requires
-group_holds-slot_of-slot-requires t c = group_few _ c.args.self.now.read.well _ c.requires.1
 
 pub group_holds-returns-in-Some-clause-holds : goal.group_holds-returns-in-Some-clause-holds
 group_holds-returns-in-Some-clause-holds t c =
     recalled_so _ _ _ c.requires.0 c.args.at c.args.group.0 (group_few _ c.args.self.now.read.well _ c.requires.1) _
     (c.in-Some.ensures ∙ ap (λ (j : ℕ). recalled (get_or c.args.known.now j 0)) c.slot_of-slot.ensures)
-
-pub group_holds-lowest_of-class-requires : goal.group_holds-lowest_of-class-requires
-group_holds-lowest_of-class-requires t c =
-    omega (arith, groups_file _ c.args.self.now.read.well, c.args.self.now.lowest_long)
-
-pub group_holds-holds-requires : goal.group_holds-holds-requires
-group_holds-holds-requires t c =
-    let low = c.lowest_of-class.ensures ∙ c.args.self.now.lowest_are _ c.requires.1 in
-    (omega (arith, c.decreases), (c.requires.0, lowest_asked _ c.args.self.now.read.well _ c.requires.1 _ low))
 
 pub group_holds-returns-clause-known : goal.group_holds-returns-clause-known
 group_holds-returns-clause-known t c =
@@ -51,10 +38,6 @@ holds-returns-then-decides-clause-holds t c =
 pub holds-returns-in_default-span-clause-holds : goal.holds-returns-in_default-span-clause-holds
 holds-returns-in_default-span-clause-holds t c =
     no_first _ _ _ c.in-And.is (sym c.in-Some.ensures.entry) (spans_none _ _ _ c.in_default-span.ensures)
-
-pub holds-holds-requires-in-And-2 : goal.holds-holds-requires-in-And-2
-holds-holds-requires-in-And-2 t c =
-    (omega (arith, c.in-Some.ensures.within, c.decreases, spans_on _ _ _ c.in-Ok-span.ensures), (c.in-Ok-holds.ensures.known, c.requires.1))
 
 pub holds-rows_of-rows-requires : goal.holds-rows_of-rows-requires
 holds-rows_of-rows-requires t c = (least_read _ _ (sym c.in-Some.ensures.entry ∙ ap some c.in-AtLeast.is)).0
@@ -78,23 +61,6 @@ holds-returns-in-Ok-span-clause-holds t c =
 pub holds-returns-in-Ok-neighbour_count-clause-holds : goal.holds-returns-in-Ok-neighbour_count-clause-holds
 holds-returns-in-Ok-neighbour_count-clause-holds t c =
     says_least _ _ _ _ _ _ _ _ _ _ (sym c.in-Some.ensures.entry ∙ ap some c.in-AtLeast.is) c.rows_of-rows.ensures c.in-Ok-neighbour_count.ensures.counts
-
-pub neighbour_count-loop-row-init : goal.neighbour_count-loop-row-init
-neighbour_count-loop-row-init t c = (omega arith, summed_none _ _ _ _, c.requires.0)
-
-pub neighbour_count-group_holds-requires : goal.neighbour_count-group_holds-requires
-neighbour_count-group_holds-requires t c = (
-  omega (arith, c.decreases),
-  (
-    c.loop-row.invariant.2,
-    row_grouped _ c.args.self.now.read.well _ (omega (arith, c.loop-row-test.true, c.requires.2)) _ c.row_group-group.ensures,
-  ),
-)
-
-pub neighbour_count-added-sum-requires : goal.neighbour_count-added-sum-requires
-neighbour_count-added-sum-requires t c =
-    sum_most _ c.args.self.now.read.well _ (omega (arith, c.loop-row-test.true, c.requires.2)) _ _ _ _ (omega arith)
-    c.loop-row-test.true c.requires.2 c.loop-row.invariant.0 c.row_count.ensures
 
 pub neighbour_count-loop-row-preserved : goal.neighbour_count-loop-row-preserved
 neighbour_count-loop-row-preserved t c =
