@@ -1,7 +1,7 @@
 -- The class is asked alone, and its word is the answer.
+use native.Mathlib.Numerals.{unary_clauses}
 use native.Mathlib.Omega.{arith}
-use Rattle.header.proofs.File.{sized_file}
 use Rattle.consult.proofs.ask.Goals as goal
 
-pub bounds-answers-k : goal.bounds-answers-k
-bounds-answers-k c = omega (arith, c.index-k.ensures, c.requires.3, (sized_file _ c.requires.0).few_classes)
+pub returns : goal.returns
+returns c = λ t k p. simp unary_clauses at (c.in-Ok.ensures t k p 0 (omega arith))
