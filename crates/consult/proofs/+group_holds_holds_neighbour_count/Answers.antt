@@ -84,7 +84,7 @@ holds-returns-in-Ok-neighbour_count-clause-holds t c =
     says_least _ _ _ _ _ _ _ _ _ _ (sym c.in-Some.ensures.entry ∙ ap some c.in-AtLeast.is) c.rows_of-own.ensures c.in-Ok-neighbour_count.ensures.counts
 
 pub neighbour_count-loop-row-init : goal.neighbour_count-loop-row-init
-neighbour_count-loop-row-init t c = let s = c.requires in (search rules, s.2, omega arith, summed_none _ _ _ _, s.1, refl)
+neighbour_count-loop-row-init t c = let s = c.requires in (omega arith, summed_none _ _ _ _, s.1)
 
 pub neighbour_count-row_group-group-requires : goal.neighbour_count-row_group-group-requires
 neighbour_count-row_group-group-requires t c = record { exact_is = (well_file _ c.requires.0.well).0; row_is = omega (arith, c.loop-row-test.true, c.requires.3) }
@@ -94,7 +94,7 @@ neighbour_count-group_holds-requires t c = (
   omega (arith, c.decreases),
   (
     c.requires.0,
-    c.loop-row.invariant.4,
+    c.loop-row.invariant.2,
     row_grouped _ _ _ c.requires.0 _ (omega (arith, c.loop-row-test.true, c.requires.3)) _ c.row_group-group.ensures,
   ),
 )
@@ -104,9 +104,8 @@ neighbour_count-row_count-requires t c = record { exact_is = (well_file _ c.requ
 
 pub neighbour_count-added-sum-requires : goal.neighbour_count-added-sum-requires
 neighbour_count-added-sum-requires t c =
-    let l = c.loop-row.invariant in
-    sum_most _ _ _ c.requires.0 _ (omega (arith, c.loop-row-test.true, c.requires.3)) _ _ _ _ l.0
-    c.loop-row-test.true c.requires.3 l.2 c.row_count.ensures
+    sum_most _ _ _ c.requires.0 _ (omega (arith, c.loop-row-test.true, c.requires.3)) _ _ _ _ (omega arith)
+    c.loop-row-test.true c.requires.3 c.loop-row.invariant.0 c.row_count.ensures
 
 pub neighbour_count-loop-row-preserved : goal.neighbour_count-loop-row-preserved
 neighbour_count-loop-row-preserved t c =
@@ -114,10 +113,8 @@ neighbour_count-loop-row-preserved t c =
     let m = c.row_count.ensures in
     let h = c.in-Ok.ensures in
     let asked = ap (lowest_class (summary_in c.args.s.now)) c.row_group-group.ensures in (
-      omega (arith, l.0),
-      omega (arith, c.loop-row-test.true),
-      rw c.added-sum.ensures (added_most _ _ _ c.requires.0 _ (omega (arith, c.loop-row-test.true, c.requires.3)) _ _ _ c.in-Ok.yes l.0 l.2 m),
-      rw c.added-sum.ensures (one_summed _ _ _ _ _ _ asked _ h.holds _ _ l.0 m l.3),
+      rw c.added-sum.ensures
+      (added_most _ _ _ c.requires.0 _ (omega (arith, c.loop-row-test.true, c.requires.3)) _ _ _ c.in-Ok.yes (omega arith) l.0 m),
+      rw c.added-sum.ensures (one_summed _ _ _ _ _ _ asked _ h.holds _ _ (omega arith) m l.1),
       h.known,
-      search rules,
     )

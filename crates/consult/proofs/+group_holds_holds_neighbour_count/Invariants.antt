@@ -17,5 +17,4 @@ decreases-neighbour_count l = 3 * (length l.q.now / 4 - l.at) + 2
 
 abbrev pub invariant-neighbour_count-loop-row : goal.invariant-neighbour_count-loop-row
 invariant-neighbour_count-loop-row l =
-    (l.low ≤ l.row) × (l.row ≤ l.high) × (l.sum ≤ 8 * (l.row - l.low)) × Summed l.q l.at (summary_in l.s) l.low l.row l.sum
-    × Remembers l.q (summary_in l.s) l.known × (length l.known ≡ length l.initial.known)
+    (l.sum ≤ 8 * (l.row - l.low)) × Summed l.q l.at (summary_in l.s) l.low l.row l.sum × Remembers l.q (summary_in l.s) l.known

@@ -18,4 +18,4 @@ loop-k-preserved c =
     let l = c.loop-k in
     let h : l.k < length l.answers = omega (arith, c.requires.2, (sized_file _ c.requires.0.well).few_classes) in
     let said = c.in-Ok.ensures in
-    (one_answered _ _ _ l.answers l.k _ h said.holds l.invariant.0, simp length-set l.invariant.1, said.known, search rules)
+    (one_answered _ _ _ l.answers l.k _ h said.holds l.invariant.0, said.known)

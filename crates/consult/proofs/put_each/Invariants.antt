@@ -7,5 +7,4 @@ use Rattle.consult.proofs.Laws.{Answered}
 use Rattle.consult.proofs.put_each.Given as goal
 
 abbrev pub invariant-loop-k : goal.invariant-loop-k
-invariant-loop-k l =
-    Answered l.q (summary_in l.s) l.from l.answers l.k × (length l.answers ≡ length l.initial.answers) × Remembers l.q (summary_in l.s) l.known × (length l.known ≡ length l.initial.known)
+invariant-loop-k l = Answered l.q (summary_in l.s) l.from l.answers l.k × Remembers l.q (summary_in l.s) l.known

@@ -69,7 +69,7 @@ leads-returns-in-Ok-clause-known t c =
 pub reaches-loop-place-init : goal.reaches-loop-place-init
 reaches-loop-place-init t c =
     let s = c.requires in
-    let l = c.last-place.ensures in (s.2, l.low, l.own, met_none _ _ _ _ _ _ _ _ s.0.register.links_are l, s.1, refl)
+    let l = c.last-place.ensures in (s.2, l.low, l.own, met_none _ _ _ _ _ _ _ _ s.0.register.links_are l, s.1)
 
 pub reaches-returns-then-met-threshold-clause-tells : goal.reaches-returns-then-met-threshold-clause-tells
 reaches-returns-then-met-threshold-clause-tells t c =
@@ -88,7 +88,6 @@ reaches-loop-place-preserved t c =
       last.own,
       rw c.added-met.ensures (met_one _ _ _ _ _ _ _ _ l.3 (omega (arith, test)) (own_link _ _ _ _ l.2 test) _ h.tells _ last),
       h.known,
-      search rules,
     )
 
 pub reaches-returns-clause-tells : goal.reaches-returns-clause-tells

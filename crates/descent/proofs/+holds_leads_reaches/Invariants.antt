@@ -21,7 +21,6 @@ abbrev pub invariant-reaches-loop-place : goal.invariant-reaches-loop-place
 invariant-reaches-loop-place l =
     (l.met < l.threshold) × (l.place ≤ l.m) × Own (register_in l.reg) l.way l.x.0 l.place
     × Met l.q l.at (register_in l.reg) l.way l.label l.x.0 l.met l.place × Remembers l.q (holds_in (register_in l.reg)) l.known
-    × (length l.known ≡ length l.initial.known)
 
 abbrev pub decreases-reaches-loop-place : goal.decreases-reaches-loop-place
 decreases-reaches-loop-place l = l.place

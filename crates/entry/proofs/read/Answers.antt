@@ -1,14 +1,8 @@
 -- `read` reads within the question, and only where bytes three and four are 0.
 use mathlib.Core.Path.{◌∙◌}
-use Rattle.std.proofs.Common.{Option, Some, None, IfSome}
 use native.Mathlib.Omega.{arith}
 use Rattle.entry.proofs.Codes.{entry_past, entry_third, entry_fourth, entry_read}
 use Rattle.entry.proofs.read.Goals as goal
-
--- what holds anyhow
-any_some : {A P : Type 0} (r : Option A) → P → IfSome r (λ k. P)
-any_some (Some k) h = h
-any_some None h = tt
 
 pub returns-then-q-at-clause-entry : goal.returns-then-q-at-clause-entry
 returns-then-q-at-clause-entry c = entry_past _ _ c.if-q-at.true
@@ -22,6 +16,3 @@ returns-then-q-i-ne0-2-clause-entry c = entry_fourth _ _ (λ e. omega arith) c.i
 pub returns-clause-entry : goal.returns-clause-entry
 returns-clause-entry c =
     c.by_code.ensures ∙ entry_read _ _ c.if-q-i-ne0.false c.if-q-i-ne0-2.false c.if-q-at.false
-
-pub returns-clause-within : goal.returns-clause-within
-returns-clause-within c = any_some _ c.if-q-at.false

@@ -5,9 +5,6 @@ use mir.Facts.{to_z-of_z}
 use Rattle.entry.proofs.Codes.{low, high, made}
 use Rattle.entry.proofs.signed.Goals as goal
 
-pub overflow_sub-result-else-b-lt128 : goal.overflow_sub-result-else-b-lt128
-overflow_sub-result-else-b-lt128 c = rw (made c.args.b (omega arith) (omega arith)) (record { sfits = omega arith })
-
 pub returns-then-b-lt128 : goal.returns-then-b-lt128
 returns-then-b-lt128 c = low c.args.b c.if-b-lt128.true
 

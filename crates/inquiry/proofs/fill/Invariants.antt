@@ -7,4 +7,4 @@ use Rattle.inquiry.specs.Known.{Known}
 use Rattle.inquiry.proofs.fill.Given as goal
 
 abbrev pub invariant-loop-j : goal.invariant-loop-j
-invariant-loop-j l = (l.j ≤ length l.q / 4) × (length l.table ≡ length l.initial.table) × Known (register_in l.reg) l.q l.n l.table l.j
+invariant-loop-j l = Known (register_in l.reg) l.q l.n l.table l.j

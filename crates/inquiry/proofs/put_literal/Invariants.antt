@@ -7,4 +7,4 @@ use Rattle.table.proofs.Laws.{Part}
 use Rattle.inquiry.proofs.put_literal.Given as goal
 
 abbrev pub invariant-loop-x : goal.invariant-loop-x
-invariant-loop-x l = (l.x ≤ l.n) × Part l.initial.table l.table l.j (λ y. shows (marks_of (register_in l.reg) y) l.literal) l.x
+invariant-loop-x l = Part l.initial.table l.table l.j (λ y. shows (marks_of (register_in l.reg) y) l.literal) l.x
