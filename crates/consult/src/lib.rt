@@ -82,6 +82,7 @@ fn put_each(
 
 // Whether the tree at entry `at` holds at the class.
 #[cycle(group_holds_holds_neighbour_count)]
+#[tactic(auto, unfolding(question::specs::Read::Spans))]
 fn holds(
     q: &[u8],
     at: usize,

@@ -1,6 +1,6 @@
 -- `holds` and `neighbour_count` call each other, by way of `group_holds`: entries left, then rows left, fall. The first is the cycle's
 -- measure, the second the loop's. Each way out is a law of Laws.
-use mathlib.Core.Path.{refl, sym, ap, ◌∙◌}
+use mathlib.Core.Path.{sym, ap, ◌∙◌}
 use mathlib.Core.Option.{some}
 use Prim.Native.Nat.{ℕ}
 use native.Mathlib.Omega.{arith}
@@ -10,12 +10,10 @@ use Rattle.meaning.specs.Summary.{lowest_class}
 use Rattle.meaning.specs.declared.Kind.TheVariants.{Literal}
 use Rattle.meaning.specs.SummaryFile.{summary_in}
 use Rattle.entry.proofs.Laws.{literal_back, literal_read, least_read}
-use Rattle.question.proofs.Steps.{no_first, spans_none}
 use Rattle.header.proofs.File.{well_file}
 use Rattle.memo.specs.Kept.{recalled}
 use Rattle.memo.proofs.Laws.{says_true, says_literal, says_not, says_first, spans_on, recalled_so, remembers_kept}
 use Rattle.consult.proofs.Laws.{truth, holds_second, says_least, summed_none, one_summed, sum_most, added_most, row_grouped, group_few, lowest_asked}
-use borrow.Author.Rules.{rules}
 use Rattle.consult.proofs.+group_holds_holds_neighbour_count.Goals as goal
 
 pub group_holds-slot_of-slot-requires : goal.group_holds-slot_of-slot-requires
@@ -49,10 +47,6 @@ holds-shows-requires t c = let e = sym c.in-Some.ensures.entry ∙ ap some c.in-
 pub holds-returns-then-decides-clause-holds : goal.holds-returns-then-decides-clause-holds
 holds-returns-then-decides-clause-holds t c =
     says_first (truth _ _) _ _ _ c.in-And.is (sym c.in-Some.ensures.entry) _ c.in-Ok-holds.ensures.holds (sym c.decides.ensures ∙ c.if-decides.true)
-
-pub holds-returns-in_default-span-clause-holds : goal.holds-returns-in_default-span-clause-holds
-holds-returns-in_default-span-clause-holds t c =
-    no_first _ _ _ c.in-And.is (sym c.in-Some.ensures.entry) (spans_none _ _ _ c.in_default-span.ensures)
 
 pub holds-holds-requires-in-And-2 : goal.holds-holds-requires-in-And-2
 holds-holds-requires-in-And-2 t c =
@@ -114,7 +108,7 @@ neighbour_count-loop-row-preserved t c =
     let h = c.in-Ok.ensures in
     let asked = ap (lowest_class (summary_in c.args.s.now)) c.row_group-group.ensures in (
       rw c.added-sum.ensures
-      (added_most _ _ _ c.requires.0 _ (omega (arith, c.loop-row-test.true, c.requires.3)) _ _ _ c.in-Ok.yes (omega arith) l.0 m),
+          (added_most _ _ _ c.requires.0 _ (omega (arith, c.loop-row-test.true, c.requires.3)) _ _ _ c.in-Ok.yes (omega arith) l.0 m),
       rw c.added-sum.ensures (one_summed _ _ _ _ _ _ asked _ h.holds _ _ (omega arith) m l.1),
       h.known,
     )

@@ -1,6 +1,6 @@
 -- `holds` and `neighbour_count` call each other, by way of `group_holds`: entries left, then rows left, fall. The first is the cycle's
 -- measure, the second the loop's.
-use Rattle.std.proofs.Common.{◌≡◌, ◌+◌, ◌-◌, ◌*◌, ◌/◌, ◌≤◌, length}
+use Rattle.std.proofs.Common.{◌+◌, ◌-◌, ◌*◌, ◌/◌, ◌≤◌, length}
 use Rattle.meaning.specs.SummaryFile.{summary_in}
 use Rattle.consult.specs.Consulted.{Remembers}
 use Rattle.consult.proofs.Laws.{Summed}

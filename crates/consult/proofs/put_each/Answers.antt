@@ -1,10 +1,9 @@
 -- The classes from `from` up to k are answered.
 use native.Mathlib.Omega.{arith}
 use Prim.Native.Nat.{◌<◌}
-use lib.ListN.{length, length-set}
+use lib.ListN.{length}
 use Rattle.header.proofs.File.{sized_file}
 use Rattle.consult.proofs.Laws.{one_answered}
-use borrow.Author.Rules.{rules}
 use Rattle.consult.proofs.put_each.Goals as goal
 
 pub overflow_cast-k : goal.overflow_cast-k

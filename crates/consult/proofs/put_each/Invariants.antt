@@ -1,6 +1,4 @@
 -- The classes from `from` up to k are answered.
-use mathlib.Core.Path.{◌≡◌}
-use lib.ListN.{length}
 use Rattle.meaning.specs.SummaryFile.{summary_in}
 use Rattle.consult.specs.Consulted.{Remembers}
 use Rattle.consult.proofs.Laws.{Answered}
