@@ -1,5 +1,5 @@
 -- What an entry that reads is: it lies within the question, and its parameters are in range. Leans on meaning's QuestionFile.
-use mathlib.Core.Path.{◌≡◌, refl, sym, ap, subst, ◌∙◌}
+use mathlib.Core.Path.{◌≡◌, refl, sym, subst}
 use mathlib.Core.Bool.{Bool, true, false, cond, ◌&&◌}
 use mathlib.Core.List.{List}
 use mathlib.Core.Option.{Option, none, some}
@@ -37,13 +37,6 @@ within_question q i k e =
     by_bool (leb (4 * i + 4) (length q))
     (λ f. omega (arith, leb-true (4 * i + 4) (length q) f))
     (λ f. absurd (clash (rw f at e)))
-
--- s is what the code read at entry i, and k the kind in it
-pub is_entry : (q : List ℕ) (i : ℕ) (s : Read Kind) (k : Kind) → kind_of s ≡ entry_at q i → s ≡ Some k → entry_at q i ≡ some k
-is_entry q i s k e f = sym e ∙ ap kind_of f
-
-pub within_entry : (q : List ℕ) (i : ℕ) (s : Read Kind) (k : Kind) → kind_of s ≡ entry_at q i → s ≡ Some k → i < length q / 4
-within_entry q i s k e f = within_question q i k (is_entry q i s k e f)
 
 -- "k is 1 to 32", "label (byte − 16)", "t, 1 to 8"
 unfoldable pub KindFine : Kind → Type 0

@@ -1,4 +1,3 @@
--- Laws of an entry's bytes, and of an entry that reads.
-pub mod Codes
+-- Laws of an entry that reads.
 pub mod Laws
 pub mod Linked

@@ -14,6 +14,7 @@ ghost use Rattle.entry.specs.Entries.{kind_of, entry_at};
 use meaning::{Direction, Kind};
 
 // "signed": the byte as a number from −128 to 127.
+#[tactic(auto, unfolding(meaning::specs::QuestionFile::signed))]
 fn signed(b: u8) -> i8
     ensures { result ≡ file.signed b }
 {
@@ -25,6 +26,7 @@ fn signed(b: u8) -> i8
 }
 
 // "k is 1 to 32", or −k: 0 and −128 are refused first, and −128 has no k.
+#[tactic(auto, unfolding(meaning::specs::QuestionFile::when, meaning::specs::WellFormed::within))]
 fn literal(k: i8) -> Option<Kind>
     ensures { kind_of result ≡ when (within 1 (nat_abs k) 32) (kinds.Literal k) }
 {
@@ -45,6 +47,7 @@ fn literal(k: i8) -> Option<Kind>
 }
 
 // True, not, and, or: the second byte is 0.
+#[tactic(auto, unfolding(meaning::specs::QuestionFile::when))]
 fn plain(kind: Kind, second: u8) -> Option<Kind>
     ensures { kind_of result ≡ when (eqb second 0) kind }
 {
@@ -52,6 +55,7 @@ fn plain(kind: Kind, second: u8) -> Option<Kind>
 }
 
 // "t, 1 to 8".
+#[tactic(auto, unfolding(meaning::specs::QuestionFile::when, meaning::specs::WellFormed::within))]
 fn at_least(direction: Direction, label: u8, threshold: u8) -> Option<Kind>
     ensures { kind_of result ≡ when (within 1 threshold 8) (kinds.AtLeast direction label threshold) }
 {
@@ -70,6 +74,7 @@ fn at_least(direction: Direction, label: u8, threshold: u8) -> Option<Kind>
 }
 
 // "at least t outgoing neighbours by label (byte − 16) satisfy the operand": by the first byte, and "All else is malformed."
+#[tactic(auto, unfolding(meaning::specs::QuestionFile::kind, meaning::specs::WellFormed::within))]
 fn by_code(code: u8, second: u8) -> Option<Kind>
     ensures { kind_of result ≡ kind code second }
 {
@@ -86,6 +91,7 @@ fn by_code(code: u8, second: u8) -> Option<Kind>
 }
 
 // Entry number `at`, "read as one of six kinds with its parameters", or none where it is malformed: "Bytes three and four are 0."
+#[tactic(auto, unfolding(crate::specs::Entries::entry_at))]
 pub fn read(q: &[u8], at: usize) -> Option<Kind>
     ensures entry { kind_of result ≡ entry_at q.now at }
     ensures within { IfSome result (λ k. at < length q.now / 4) }
@@ -104,6 +110,7 @@ pub fn read(q: &[u8], at: usize) -> Option<Kind>
 }
 
 // "mark k, 1 to 32, is the bit worth 2^(k−1)".
+#[tactic(auto, unfolding(meaning::specs::Question::bit))]
 fn mark(marks: u32, k: u32) -> bool
     requires { (1 ≤ k) × (k ≤ 32) }
     ensures { result ≡ bit marks (k - 1) }
@@ -112,6 +119,7 @@ fn mark(marks: u32, k: u32) -> bool
 }
 
 // "k means mark k is on the item, −k that it is absent". Only −32 to −1 is negated.
+#[tactic(auto, unfolding(meaning::specs::Question::shows))]
 pub fn shows(marks: u32, literal: i8) -> bool
     requires { (1 ≤ nat_abs literal) × (nat_abs literal ≤ 32) }
     ensures { result ≡ trees.shows marks literal }
