@@ -8,6 +8,7 @@ use native.Mathlib.Omega.{arith}
 use borrow.Author.Tests.{lt-ltb, le-ltb}
 use lib.Dec.{leb}
 use lib.ListN.{length}
+use Rattle.std.proofs.Common.{Err}
 use Rattle.meaning.specs.Register.{items}
 use Rattle.meaning.specs.WellFormed.{in_range}
 use Rattle.meaning.specs.Check.{fits}
@@ -22,7 +23,6 @@ use Rattle.meaning.specs.declared.Refusal.{Refusal}
 use Rattle.meaning.specs.declared.Refusal.TheVariants.{Range}
 use Rattle.theory.proofs.WellMade.{level_least}
 use Rattle.said.specs.Written.{Gives}
-use Rattle.said.specs.declared.Wrote.TheVariants as writes
 use Rattle.promise.proofs.Promise.{summary_most, in_range_law}
 use Rattle.promise.proofs.Access.{items_at, links_at, accepted_so}
 use Rattle.question.specs.Read as read
@@ -103,13 +103,13 @@ module _ (b s : List ℕ) where
 -- ---- condensing
 
 module _ (b d : List ℕ) (i µ ν : ℕ) where
-  pub condense_refused : (r : Refusal) → refused (number_of r) ≡ verdict b → Gives (writes.Refused r) d d (condense i µ ν b (length d))
+  pub condense_refused : (r : Refusal) → refused (number_of r) ≡ verdict b → Gives (Err r) d d (condense i µ ν b (length d))
   unfolding condense
   condense_refused r e =
       record { says = refused_first b (number_of r) _ e; leaves = refused_leaves b (number_of r) _ d e }
 
   module _ (f : fault b ≡ 0) where
-    pub condense_four : in_range i µ ν ≡ false → Gives (writes.Refused Range) d d (condense i µ ν b (length d))
+    pub condense_four : in_range i µ ν ≡ false → Gives (Err Range) d d (condense i µ ν b (length d))
     unfolding condense unless returned left
     condense_four e = record { says = sym (rw (f, e)); leaves = sym (rw (f, e)) }
 

@@ -8,6 +8,7 @@ use native.Mathlib.Omega.{arith}
 use borrow.Author.Tests.{lt-ltb, le-ltb}
 use lib.Dec.{leb, ltb}
 use lib.ListN.{length, get_or}
+use Rattle.std.proofs.Common.{Err}
 use Rattle.meaning.specs.Count.{those}
 use Rattle.meaning.specs.Question.{Question, depth, threshold}
 use Rattle.meaning.specs.Summary.{Summary, class_at, holds_at}
@@ -22,7 +23,6 @@ use Rattle.meaning.specs.Answers
 use Rattle.theory.proofs.CountLaws.{those_same}
 use Rattle.summary.proofs.Laws.{size_numbers}
 use Rattle.said.specs.Written.{Gives}
-use Rattle.said.specs.declared.Wrote.TheVariants as writes
 use Rattle.header.proofs.File.{sized_file}
 use Rattle.listed.proofs.Laws.{at_most, mapped}
 use Rattle.question.specs.Read as read
@@ -88,7 +88,7 @@ module _ (s q : List ℕ) where
 
 -- ---- what a refusal gives, and the items of a list
 
-pub gives_refused : (r : Refusal) (d : List ℕ) → Gives (writes.Refused r) d d (Answers.refused (number_of r))
+pub gives_refused : (r : Refusal) (d : List ℕ) → Gives (Err r) d d (Answers.refused (number_of r))
 unfolding returned left
 gives_refused r d = record { says = refl; leaves = refl }
 

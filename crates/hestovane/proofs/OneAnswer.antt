@@ -2,23 +2,21 @@
 -- Two results that a function's contract allows for the same arguments are the same value, and every lent buffer holds the same bytes. The
 -- contract is no copy: it is what the checker makes of the clauses, so that a weaker clause is refused here. Leans on promise's OneAnswer.
 use mathlib.Core.Path.{◌≡◌, refl, sym, ap, ◌∙◌}
+use mathlib.Core.Bool.{Bool}
 use mathlib.Core.List.{List}
 use Prim.Native.Nat.{ℕ}
 use native.Mathlib.Omega.{arith}
 use contract.Lifetimes.{Lfts}
 use denote.Triple.Clauses.{Lasts, at_exit}
 use borrow.Fn.Kinds.{ParamKind, ResultKind, Out, Dens, res_t, ended_of}
+use Rattle.std.proofs.Common.{Result, Ok, Err}
 use Rattle.meaning.specs.Refusals.{number_of}
 use Rattle.meaning.specs.declared.Refusal.{Refusal}
 use Rattle.meaning.specs.Answers.{Answer, number}
 use Rattle.promise.proofs.OneAnswer.{number_one}
 use Rattle.said.specs.Written as written
 use Rattle.said.specs.Written.{Gives}
-use Rattle.said.specs.declared.Wrote.{Wrote}
-use Rattle.said.specs.declared.Wrote.TheVariants.{Length, Refused}
 use Rattle.said.specs.Told.{told}
-use Rattle.said.specs.declared.Said.{Said}
-use Rattle.said.specs.declared.Said.TheVariants.{Yes, No, Refused as Not}
 use Rattle.hestovane.proofs.condense.Kinds as condense-kinds
 use Rattle.hestovane.proofs.condense.Reads as condense-reads
 use Rattle.hestovane.proofs.hestovane_condense.Kinds as c-condense-kinds
@@ -48,24 +46,19 @@ number_back j k e = cc
 pub clash : {A : Type 0} → ◌≡◌ {A = ℕ} 0 1 → A
 clash e = absurd (omega (arith, e))
 
-pub said_one : (r s : Said) → told r ≡ told s → r ≡ s
-said_one Yes Yes e = refl
-said_one Yes No e = clash cc
-said_one Yes (Not b) e = clash cc
-said_one No Yes e = clash cc
-said_one No No e = refl
-said_one No (Not b) e = clash cc
-said_one (Not a) Yes e = clash cc
-said_one (Not a) No e = clash cc
-said_one (Not a) (Not b) e = ap (λ (r : Refusal). Not r) (number_one a b (number_back (number_of a) (number_of b) e))
+pub said_one : (r s : Result Bool Refusal) → told r ≡ told s → r ≡ s
+said_one (Ok t) (Ok u) e = ap (λ (b : Bool). Ok b) cc
+said_one (Ok t) (Err b) e = clash cc
+said_one (Err a) (Ok u) e = clash cc
+said_one (Err a) (Err b) e = ap (λ (r : Refusal). Err r) (number_one a b (number_back (number_of a) (number_of b) e))
 
-pub wrote_one : (w v : Wrote) → written.told w ≡ written.told v → w ≡ v
-wrote_one (Length j) (Length k) e = ap (λ (n : ℕ). Length n) cc
-wrote_one (Length j) (Refused b) e = clash cc
-wrote_one (Refused a) (Length k) e = clash cc
-wrote_one (Refused a) (Refused b) e = ap (λ (r : Refusal). Refused r) (number_one a b (number_back (number_of a) (number_of b) e))
+pub wrote_one : (w v : Result ℕ Refusal) → written.told w ≡ written.told v → w ≡ v
+wrote_one (Ok j) (Ok k) e = ap (λ (n : ℕ). Ok n) cc
+wrote_one (Ok j) (Err b) e = clash cc
+wrote_one (Err a) (Ok k) e = clash cc
+wrote_one (Err a) (Err b) e = ap (λ (r : Refusal). Err r) (number_one a b (number_back (number_of a) (number_of b) e))
 
-gives_one : (a : Answer) (d : List ℕ) {w v : Wrote} {x y : List ℕ} → Gives w d x a → Gives v d y a → (w ≡ v) × (x ≡ y)
+gives_one : (a : Answer) (d : List ℕ) {w v : Result ℕ Refusal} {x y : List ℕ} → Gives w d x a → Gives v d y a → (w ≡ v) × (x ≡ y)
 gives_one a d {w} {v} p q = (wrote_one w v (p.says ∙ sym q.says), p.leaves ∙ sym q.leaves)
 
 -- ---- what a contract allows

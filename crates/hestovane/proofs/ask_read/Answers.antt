@@ -29,8 +29,8 @@ returns-then-items-item c =
     ∙ c.if-beyond.false)
     (omega (arith, c.if-items-item.true, c.items.ensures))
 
-pub class_of-requires : goal.class_of-requires
-class_of-requires c =
+pub class_of-class-requires : goal.class_of-class-requires
+class_of-class-requires c =
     record {
       exact_is = (well_file _ c.requires.well).0;
       item_is = omega (arith, c.if-items-item.false, c.items.ensures);
@@ -44,7 +44,7 @@ ask-requires c =
       s.kept,
       omega (
         arith,
-        c.class_of.ensures,
+        c.class_of-class.ensures,
         mapped _ c.args.item s.well
             (omega (arith, c.if-items-item.false, c.items.ensures)),
       ),
@@ -55,14 +55,13 @@ returns-in_default c =
     let s = c.requires in
     absurd (not_refused _ _ _ (c.ask.ensures s.tree _ (parsed_question _ s.tree s.reads)) c.in_default.is)
 
-pub returns : goal.returns
-returns c =
+pub returns-in-Said : goal.returns-in-Said
+returns-in-Said c =
     let s = c.requires in
-    c.spoken.ensures
-    ∙ ap word
+    ap word
     (said_one _ _ _ c.in-Said.is
     (c.ask.ensures s.tree _ (parsed_question _ s.tree s.reads))
-    ∙ at_class _ s.tree _ _ c.class_of.ensures)
+    ∙ at_class _ s.tree _ _ c.class_of-class.ensures)
     ∙ ask_at _ _ _ s.well s.tree s.reads
     (sym (beyond_by _ s.tree _ _ (sym s.depth_is) (sym s.threshold_is))
     ∙ sym c.beyond.ensures

@@ -16,8 +16,7 @@ ask-asked-requires c =
 
 pub returns-in-Said : goal.returns-in-Said
 returns-in-Said c =
-    c.spoken.ensures
-    ∙ ap word (said_one _ _ _ c.in-Said.is c.ask-asked.ensures)
+    ap word (said_one _ _ _ c.in-Said.is c.ask-asked.ensures)
     ∙ ask_said _ _ _ _ _ c.requires.0 c.requires.1 (omega arith)
 
 pub returns-in-Refused : goal.returns-in-Refused

@@ -14,8 +14,7 @@ check-requires c =
 
 pub returns-then-judge : goal.returns-then-judge
 returns-then-judge c =
-    c.spoken.ensures
-    ∙ ap word c.check.ensures
+    ap word c.check.ensures
     ∙ check_said _ _ c.requires.fine
     (sym c.judge.ensures.0 ∙ c.if-judge.true)
 

@@ -3,7 +3,7 @@ use native.Mathlib.Omega.{arith}
 use mathlib.Core.Path.{sym, ap, ◌∙◌}
 use mathlib.Core.List.{List}
 use Prim.Native.Nat.{ℕ}
-use lib.ListN.{length}
+use lib.ListN.{length, length-take}
 use Rattle.meaning.specs.Bytes.{put2, pack}
 use Rattle.meaning.specs.Answers.{into}
 use Rattle.question.proofs.Laws.{parsed_question, done_not_refused}
@@ -40,13 +40,11 @@ returns-in_default c =
 pub put_items-r-requires : goal.put_items-r-requires
 put_items-r-requires c = (c.requires.well, search rules, search rules)
 
+pub slice_bounds-put_list-end : goal.slice_bounds-put_list-end
+slice_bounds-put_list-end c = omega (arith, length-take {A = ℕ}, few_named _ _ _ c.requires.well c.put_items-r.ensures.0)
+
 pub put_list-requires : goal.put_list-requires
-put_list-requires c =
-    let few =
-    few_named _ _ _
-    c.requires.well
-    c.put_items-r.ensures.0 in
-    (few, omega (arith, few))
+put_list-requires c = omega (arith, length-take {A = ℕ}, few_named _ _ _ c.requires.well c.put_items-r.ensures.0)
 
 pub returns : goal.returns
 returns c =
