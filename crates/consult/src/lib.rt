@@ -20,7 +20,8 @@ struct Consulted<'a> {
     read: WellFormed<'a>,
     lowest: &'a [u16],
     ghost lowest_long: { length lowest.now ≡ 1024 },
-    ghost lowest_are: { (g : ℕ) → g < (summary_in read.summary.bytes.now).groups → get_or lowest.now g 0 ≡ lowest_class (summary_in read.summary.bytes.now) g },
+    ghost lowest_are: { (g : ℕ) → g < (summary_in read.summary.bytes.now).groups
+        → get_or lowest.now g 0 ≡ lowest_class (summary_in read.summary.bytes.now) g },
 }
 
 // Whether the question, which has that depth, holds at the class.

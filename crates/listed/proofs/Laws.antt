@@ -5,16 +5,13 @@ use mathlib.Core.List.{List, [], ◌∷◌, ◌++◌, append-nil}
 use Prim.Native.Nat.{ℕ, zero, suc, ◌+◌, ◌≤◌, ◌<◌}
 use native.Mathlib.Omega.{arith}
 use native.Mathlib.Numerals.{add-one}
-use borrow.Author.Tests.{ltb-true}
-use lib.Dec.{ltb}
 use lib.ListN.{length, take, set, length-append}
 use lib.Seq.{take-suc-set}
 use Rattle.meaning.specs.Count.{those}
 use Rattle.meaning.specs.Summary.{class_at}
 use Rattle.meaning.specs.SummaryFile.{summary_in, well_formed_file}
-use Rattle.theory.proofs.CountLaws.{by_bool, each_every, every_at}
-use Rattle.theory.proofs.ShapeLaws.{well_parts, number_parts}
-use Rattle.header.proofs.File.{well_file, sized_file}
+use Rattle.theory.proofs.CountLaws.{by_bool}
+use Rattle.header.proofs.File.{class_in, few_items}
 
 module _ (p : ℕ → Bool) where
   pub at_most : (x : ℕ) → length (those p x) ≤ x
@@ -37,13 +34,8 @@ module _ (p : ℕ → Bool) where
     unfolding those
     none_more e = rw (add-one, e, append-nil (those p x)) (g, h)
 
--- the answer at an item's class, and the classes that items have
+-- the classes that items have
 pub mapped : (s : List ℕ) (x : ℕ) → well_formed_file s ≡ true → x < length (summary_in s).map → class_at (summary_in s) x < length (summary_in s).classes
-unfolding class_at
-mapped s x w h =
-    let p = (number_parts (summary_in s) (well_parts (summary_in s) (well_file s w).1).2).3 in
-    every_at (λ k. k < length (summary_in s).classes) 0 (summary_in s).map
-    (each_every (λ k. ltb k (length (summary_in s).classes)) (summary_in s).map p (λ k e. ltb-true k (length (summary_in s).classes) e)) x h
+mapped s x w h = class_in s w x h
 
-pub class_low : (s : List ℕ) (x : ℕ) → well_formed_file s ≡ true → x < length (summary_in s).map → class_at (summary_in s) x < 1024
-class_low s x w h = omega (arith, mapped s x w h, (sized_file s w).few_classes)
+pub ruleset listed = (at_most, class_in, few_items)
