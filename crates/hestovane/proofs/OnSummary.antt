@@ -1,5 +1,5 @@
 -- The refusals of asking and listing from a summary in their order: 6, 5, 7, then 8 or 9. Leans on meaning's Answers.
-use mathlib.Core.Path.{◌≡◌, refl, sym, ap}
+use mathlib.Core.Path.{◌≡◌, refl, sym, ap, ◌∙◌}
 use mathlib.Core.Bool.{Bool, true, false, cond, ◌||◌}
 use mathlib.Core.List.{List}
 use mathlib.Core.Option.{Option, none, some}
@@ -8,7 +8,7 @@ use native.Mathlib.Omega.{arith}
 use borrow.Author.Tests.{lt-ltb, le-ltb}
 use lib.Dec.{leb, ltb}
 use lib.ListN.{length, get_or}
-use Rattle.std.proofs.Common.{Err}
+use Rattle.std.proofs.Common.{Result, Ok, Err}
 use Rattle.meaning.specs.Count.{those}
 use Rattle.meaning.specs.Question.{Question, depth, threshold}
 use Rattle.meaning.specs.Summary.{Summary, class_at, holds_at}
@@ -23,13 +23,19 @@ use Rattle.meaning.specs.Answers
 use Rattle.theory.proofs.CountLaws.{those_same}
 use Rattle.summary.proofs.Laws.{size_numbers}
 use Rattle.said.specs.Written.{Gives}
+use Rattle.said.proofs.Laws.{gives_this}
+use Rattle.meaning.specs.declared.Refusal.TheVariants.{Beyond, Question as Malformation, Summary as Sixth}
 use Rattle.header.proofs.File.{sized_file}
 use Rattle.listed.proofs.Laws.{at_most, mapped}
 use Rattle.question.specs.Read as read
-use Rattle.question.proofs.Laws.{verdict_accepted}
-use Rattle.matching.specs.Keys.{Keyed}
-use Rattle.hestovane.specs.Readied.{Readied}
+use Rattle.question.specs.declared.Needs.{Needs}
+use Rattle.question.proofs.Laws.{verdict_accepted, verdict_refused, parsed_question}
+use Rattle.hestovane.specs.Readied.{Reached}
+use Rattle.said.specs.Told.{told}
 use Rattle.said.specs.Written.{Short}
+use Rattle.question.specs.Read.{Treeless}
+use Rattle.consult.specs.Consulted.{Holds, Answers as Answered}
+use Rattle.listed.specs.Passing.{passing}
 
 -- 7, as the code tests it
 pub beyond_by : (S : Summary) (t : Question) (d h : ℕ) → d ≡ depth t → h ≡ threshold t → ltb S.level d || ltb (S.near_cap + 1) h ≡ beyond S t
@@ -130,7 +136,69 @@ pub at_class : (S : Summary) (t : Question) (k c : ℕ) → k ≡ c → holds_at
 at_class S t k c e = ap (holds_at S t) e
 
 -- the summary and the question, judged
-pub readied : (s keys q : List ℕ) (d h : ℕ) → well_formed_file s ≡ true → length keys ≡ 4096 → Keyed true (summary_in s) keys →
-    read.accepted d h ≡ read.verdict q → Readied s keys q d h
-readied s keys q d h w l k e =
-    let v = verdict_accepted q d h e in record { well = w; keys_long = l; kept = k; tree = v.0; reads = v.1; depth_is = v.2; threshold_is = v.3 }
+pub reached : (s q : List ℕ) (n : Needs) (b : Bool) → read.accepted n.depth n.threshold ≡ read.verdict q →
+    b ≡ (ltb (summary_in s).level n.depth || ltb ((summary_in s).near_cap + 1) n.threshold) → b ≡ false → Reached s q n
+reached s q n b e f g =
+    let v = verdict_accepted q n.depth n.threshold e in
+    record {
+      tree = v.0;
+      reads = v.1;
+      depth_is = v.2;
+      within = sym (beyond_by (summary_in s) v.0 n.depth n.threshold (sym v.2) (sym v.3)) ∙ sym f ∙ g;
+    }
+
+-- 5, and 7
+module _ (s q : List ℕ) (well : well_formed_file s ≡ true) where
+  pub ask_refused : (r : Refusal) (x : ℕ) → read.refused (number_of r) ≡ read.verdict q → number (number_of r) ≡ returned (ask_summary s q x)
+  ask_refused r x e = let v = verdict_refused q (number_of r) e in ap number v.1 ∙ ask_five s q x well v.0
+
+  pub list_refused : (r : Refusal) (d : List ℕ) → read.refused (number_of r) ≡ read.verdict q → Gives (Err r) d d (list s q (length d))
+  list_refused r d e =
+      let v = verdict_refused q (number_of r) e in
+      gives_this _ _ _ _ _ (ap Answers.refused v.1 ∙ list_five s q (length d) well v.0) (gives_refused r d)
+
+  module _ (n : Needs) (b : Bool) (e : read.accepted n.depth n.threshold ≡ read.verdict q)
+      (f : b ≡ (ltb (summary_in s).level n.depth || ltb ((summary_in s).near_cap + 1) n.threshold)) (g : b ≡ true) where
+    pub ask_too_deep : (x : ℕ) → number 7 ≡ returned (ask_summary s q x)
+    ask_too_deep x =
+        let v = verdict_accepted q n.depth n.threshold e in
+        ask_seven s q x well v.0 v.1 (sym (beyond_by (summary_in s) v.0 n.depth n.threshold (sym v.2) (sym v.3)) ∙ sym f ∙ g)
+
+    pub list_too_deep : (d : List ℕ) → Gives (Err Beyond) d d (list s q (length d))
+    list_too_deep d =
+        let v = verdict_accepted q n.depth n.threshold e in
+        gives_this _ _ _ _ _
+        (list_seven s q (length d) well v.0 v.1 (sym (beyond_by (summary_in s) v.0 n.depth n.threshold (sym v.2) (sym v.3)) ∙ sym f ∙ g))
+        (gives_refused Beyond d)
+
+pub list_refused_six : (s q : List ℕ) (r : Refusal) (d : List ℕ) → r ≡ Sixth → well_formed_file s ≡ false → Gives (Err r) d d (list s q (length d))
+list_refused_six s q r d e f = gives_this _ _ _ _ _ (ap (λ r. Answers.refused (number_of r)) e ∙ list_six s q (length d) f) (gives_refused r d)
+
+-- ---- what holds at a class, told of an item; and of every class, told as a list
+
+module _ (s q : List ℕ) (well : well_formed_file s ≡ true) (n : Needs) (r : Reached s q n) where
+  no_tree : Treeless q 0 → ⊥
+  no_tree h = h r.tree _ (parsed_question q r.tree r.reads)
+
+  pub asked : (x k : ℕ) → k ≡ class_at (summary_in s) x → x < length (summary_in s).map → (a : Result Bool Refusal) → Holds q 0 (summary_in s) k a →
+      told a ≡ returned (ask_summary s q x)
+  asked x k e u (Ok b) h =
+      ap word (h r.tree _ (parsed_question q r.tree r.reads) ∙ at_class (summary_in s) r.tree k (class_at (summary_in s) x) e)
+      ∙ ask_at s q x well r.tree r.reads r.within u
+  asked x k e u (Err f) h = absurd (no_tree h)
+
+  pub untold : (f : Refusal) (a : Result (Unit {0}) Refusal) (held : List Bool) (d : List ℕ) → a ≡ Err f → Answered q (summary_in s) 0 a held →
+      Gives (Err Malformation) d d (list s q (length d))
+  untold f (Ok u) held d e h = absurd (no_ok e)
+    where
+      no_ok : {u : Unit {0}} → ◌≡◌ {A = Result (Unit {0}) Refusal} (Ok u) (Err f) → ⊥
+      no_ok e = let z : ◌≡◌ {A = ℕ} 0 1 = cc in omega arith
+  untold f (Err g) held d e h = absurd (no_tree h)
+
+  pub listed : (u : Unit {0}) (held : List Bool) (d ns : List ℕ) → length held ≡ length (summary_in s).classes → Answered q (summary_in s) 0 (Ok u) held →
+      ns ≡ passing s held → into (length d) (pack put2 ns) ≡ list s q (length d)
+  listed u held d ns l h e =
+      let named =
+      list_named s r.tree held well
+      (λ c v. h r.tree _ (parsed_question q r.tree r.reads) c (omega (arith, l)) ∙ ap (holds_at (summary_in s) r.tree) (omega arith)) in
+      ap (λ (l : List ℕ). into (length d) (pack put2 l)) (e ∙ named) ∙ list_into s q (length d) well r.tree r.reads r.within

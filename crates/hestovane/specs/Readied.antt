@@ -1,17 +1,15 @@
--- What a call on a summary has once summary and question are judged. Leans on meaning and on matching's Keys.
-use Rattle.std.specs.Prelude.{◌≡◌, true, List, ℕ, length}
+-- What a call on a summary has once summary and question are judged. Leans on meaning's Answers and QuestionFile.
+use Rattle.std.specs.Prelude.{◌≡◌, false, List, ℕ}
 use Rattle.std.proofs.Math.Option.{some}
-use Rattle.meaning.specs.Question.{Question, depth, threshold}
+use Rattle.meaning.specs.Question.{Question, depth}
 use Rattle.meaning.specs.QuestionFile.{question}
-use Rattle.meaning.specs.SummaryFile.{summary_in, well_formed_file}
-use Rattle.matching.specs.Keys.{Keyed}
+use Rattle.meaning.specs.SummaryFile.{summary_in}
+use Rattle.meaning.specs.Answers.{beyond}
+use Rattle.question.specs.declared.Needs.{Needs}
 
--- a well-formed summary with the keys of its rows, and a well-formed question with its depth and its greatest threshold
-pub record Readied (s keys q : List ℕ) (d h : ℕ) : Type 0 where
-  pub well : well_formed_file s ≡ true
-  pub keys_long : length keys ≡ 4096
-  pub kept : Keyed true (summary_in s) keys
+-- a well-formed question that has that depth, and that the summary can answer
+pub record Reached (s q : List ℕ) (n : Needs) : Type 0 where
   pub tree : Question
   pub reads : question q ≡ some tree
-  pub depth_is : depth tree ≡ d
-  pub threshold_is : threshold tree ≡ h
+  pub depth_is : depth tree ≡ n.depth
+  pub within : beyond (summary_in s) tree ≡ false

@@ -5,93 +5,79 @@
 
 ghost use Rattle.std.specs.Prelude.{◌≡◌, length};
 ghost use Rattle.meaning.specs.QuestionFile.{question};
+ghost use Rattle.meaning.specs.SummaryFile.{summary_in};
 ghost use Rattle.meaning.specs.Answers.{returned, code, left, ask_tree};
 ghost use Rattle.meaning.specs.Answers as answers;
-ghost use Rattle.register.specs.Told.{OfRegister};
 ghost use Rattle.inquiry.specs.Known.{Whole};
-ghost use Rattle.hestovane.specs.Readied.{Readied};
+ghost use Rattle.hestovane.specs.Readied.{Reached};
 ghost use Rattle.said.specs.Told.{told};
 ghost use Rattle.said.specs.Written.{Gives};
 
+use condense::Wanted;
+use header::WellFormed;
 use meaning::Refusal;
-use names::Item;
-use question::{Asked, Filled};
-use register::Judged;
+use names::{Class, Item};
+use question::Needs;
+use register::Register;
 
 // Whether the question holds at the item of the register: "ask a register 1, 2, 3, 5, 8".
 pub fn ask_register(reg: &[u8], q: &[u8], item: u16) -> Result<bool, Refusal>
     ensures { told result ≡ returned (answers.ask_register reg.now q.now item) }
 {
-    let judged = register::judge(reg);
-    match judged {
-        Judged::Accepted { items, links } => ask_accepted(reg, items, links, q, item),
-        Judged::Refused(refusal) => Err(refusal),
+    match register::judge(reg) {
+        Ok(register) => ask_accepted(&register, q, item),
+        Err(refusal) => Err(refusal),
     }
 }
 
 // The register is accepted: 5.
-fn ask_accepted(reg: &[u8], n: usize, m: usize, q: &[u8], item: u16) -> Result<bool, Refusal>
-    requires { OfRegister reg.now n m }
-    ensures { told result ≡ returned (ask_tree reg.now item (question q.now)) }
+fn ask_accepted(reg: &Register, q: &[u8], item: u16) -> Result<bool, Refusal>
+    ensures { told result ≡ returned (ask_tree reg.now.bytes.now item (question q.now)) }
 {
-    let judged = question::judge(q);
-    match judged {
-        question::Judged::Accepted {
-            depth,
-            threshold: _,
-        } => ask_whole(reg, n, m, q, depth, item),
-        question::Judged::Refused(refusal) => Err(refusal),
+    match question::judge(q) {
+        Ok(needs) => ask_whole(reg, q, needs.depth, item),
+        Err(five) => Err(five),
     }
 }
 
 // And the question is well formed: 8, and then the answer.
-fn ask_whole(
-    reg: &[u8],
-    n: usize,
-    m: usize,
-    q: &[u8],
-    depth: usize,
-    item: u16,
-) -> Result<bool, Refusal>
-    requires { OfRegister reg.now n m × Whole q.now }
-    ensures { told result ≡ returned (ask_tree reg.now item (question q.now)) }
+fn ask_whole(reg: &Register, q: &[u8], depth: usize, item: u16) -> Result<bool, Refusal>
+    requires { Whole q.now }
+    ensures { told result ≡ returned (ask_tree reg.now.bytes.now item (question q.now)) }
 {
-    if n <= item as usize {
+    if reg.items <= item as usize {
         return Err(Refusal::Item);
     }
-    let asked = inquiry::ask(reg, n, m, q, depth, Item(item));
-    match asked {
-        Asked::Said(yes) => Ok(yes),
-        Asked::Refused(refusal) => Err(refusal),
-    }
+    inquiry::ask(reg, q, depth, Item(item))
 }
 
 // The summary of the register, into the lent buffer: "condense 1, 2, 3 as above, 4, 9".
 pub fn condense(reg: &[u8], i: u16, mu: u16, nu: u16, out: &mut [u8]) -> Result<usize, Refusal>
     ensures { Gives result out.old out.new (answers.condense i mu nu reg.now (length out.old)) }
 {
-    let judged = register::judge(reg);
-    match judged {
-        Judged::Accepted { items, links } => condense_accepted(reg, items, links, i, mu, nu, out),
-        Judged::Refused(fault) => Err(fault),
+    match register::judge(reg) {
+        Ok(register) => condense_accepted(&register, i, mu, nu, out),
+        Err(fault) => Err(fault),
     }
 }
 
 // The register is accepted: "4: i, µ or ν out of range", judged before anything is narrowed to a byte.
 fn condense_accepted(
-    reg: &[u8],
-    n: usize,
-    m: usize,
+    reg: &Register,
     i: u16,
     mu: u16,
     nu: u16,
     out: &mut [u8],
 ) -> Result<usize, Refusal>
-    requires { OfRegister reg.now n m }
-    ensures { Gives result out.old out.new (answers.condense i mu nu reg.now (length out.old)) }
+    ensures { Gives result out.old out.new (answers.condense i mu nu reg.now.bytes.now (length out.old)) }
 {
     if range::in_range(i, mu, nu) {
-        return condense::condense(reg, n, m, i, mu as u8, nu as u8, out);
+        let wanted = Wanted {
+            level: i,
+            near_cap: mu as u8,
+            class_cap: nu as u8,
+        };
+        return condense::condense(reg, wanted, out);
     }
     Err(Refusal::Range)
 }
@@ -100,23 +86,21 @@ fn condense_accepted(
 pub fn check(reg: &[u8], s: &[u8]) -> Result<bool, Refusal>
     ensures { told result ≡ returned (answers.check reg.now s.now) }
 {
-    let judged = register::judge(reg);
-    match judged {
-        Judged::Accepted { items, links } => check_accepted(reg, items, links, s),
-        Judged::Refused(refusal) => Err(refusal),
+    match register::judge(reg) {
+        Ok(register) => check_accepted(&register, s),
+        Err(refusal) => Err(refusal),
     }
 }
 
 // The register is accepted: "6: summary not well formed", and then the answer.
-fn check_accepted(reg: &[u8], n: usize, m: usize, s: &[u8]) -> Result<bool, Refusal>
-    requires { OfRegister reg.now n m }
-    ensures { told result ≡ returned (answers.check reg.now s.now) }
+fn check_accepted(reg: &Register, s: &[u8]) -> Result<bool, Refusal>
+    ensures { told result ≡ returned (answers.check reg.now.bytes.now s.now) }
 {
     let mut keys = [0u64; 4096];
-    if wellformed::judge(s, &mut keys) {
-        return Ok(proposal::check(reg, n, m, s, &keys));
+    match wellformed::judge(s, &mut keys) {
+        Ok(read) => Ok(proposal::check(reg, &read)),
+        Err(six) => Err(six),
     }
-    Err(Refusal::Summary)
 }
 
 // Whether the question holds at the item of the summary: "ask a summary 6, 5, 7, 8".
@@ -124,41 +108,36 @@ pub fn ask_summary(s: &[u8], q: &[u8], item: u16) -> Result<bool, Refusal>
     ensures { told result ≡ returned (answers.ask_summary s.now q.now item) }
 {
     let mut keys = [0u64; 4096];
-    if !wellformed::judge(s, &mut keys) {
-        return Err(Refusal::Summary);
-    }
-    let judged = question::judge(q);
-    match judged {
-        question::Judged::Accepted { depth, threshold } => {
-            ask_read(s, &keys, q, depth, threshold, item)
-        }
-        question::Judged::Refused(five) => Err(five),
+    match wellformed::judge(s, &mut keys) {
+        Ok(read) => ask_read(&read, q, item),
+        Err(refusal) => Err(refusal),
     }
 }
 
-// The summary is well formed and the question has that depth and that greatest threshold: 7, 8, and then the answer.
-fn ask_read(
-    s: &[u8],
-    keys: &[u64],
-    q: &[u8],
-    depth: usize,
-    threshold: usize,
-    item: u16,
-) -> Result<bool, Refusal>
-    requires { Readied s.now keys.now q.now depth threshold }
-    ensures { told result ≡ returned (answers.ask_summary s.now q.now item) }
+// The summary is well formed: 5, and 7.
+fn ask_read(s: &WellFormed, q: &[u8], item: u16) -> Result<bool, Refusal>
+    ensures { told result ≡ returned (answers.ask_summary s.now.summary.bytes.now q.now item) }
 {
-    if reach::beyond(s, depth, threshold) {
-        Err(Refusal::Beyond)
-    } else if reader::items(s) <= item as usize {
-        Err(Refusal::Item)
-    } else {
-        let class = reader::class_of(s, Item(item));
-        let Asked::Said(yes) = consult::ask(q, depth, s, keys, class) else {
-            return Err(Refusal::Question);
-        };
-        Ok(yes)
+    match question::judge(q) {
+        Ok(needs) => {
+            if reach::beyond(&s.summary, needs) {
+                return Err(Refusal::Beyond);
+            }
+            ask_reached(s, q, needs, item)
+        }
+        Err(refusal) => Err(refusal),
     }
+}
+
+// And the question is within what the summary can answer: 8, and then the answer.
+fn ask_reached(s: &WellFormed, q: &[u8], needs: Needs, item: u16) -> Result<bool, Refusal>
+    requires { Reached s.now.summary.bytes.now q.now needs }
+    ensures { told result ≡ returned (answers.ask_summary s.now.summary.bytes.now q.now item) }
+{
+    if s.summary.items() <= item as usize {
+        return Err(Refusal::Item);
+    }
+    consult::ask(q, needs.depth, s, s.summary.class_of(Item(item)))
 }
 
 // The items of the summary where the question holds, into the lent buffer: "list from a summary 6, 5, 7, 9".
@@ -166,40 +145,54 @@ pub fn list(s: &[u8], q: &[u8], out: &mut [u8]) -> Result<usize, Refusal>
     ensures { Gives result out.old out.new (answers.list s.now q.now (length out.old)) }
 {
     let mut keys = [0u64; 4096];
-    if !wellformed::judge(s, &mut keys) {
-        return Err(Refusal::Summary);
-    }
-    let judged = question::judge(q);
-    match judged {
-        question::Judged::Accepted { depth, threshold } => {
-            list_read(s, &keys, q, depth, threshold, out)
-        }
-        question::Judged::Refused(five) => Err(five),
+    match wellformed::judge(s, &mut keys) {
+        Ok(read) => list_read(&read, q, out),
+        Err(refusal) => Err(refusal),
     }
 }
 
-// And then 7, the items, a class asked once and not once an item, and 9.
-fn list_read(
-    s: &[u8],
-    keys: &[u64],
+// The summary is well formed: 5, and 7.
+fn list_read(s: &WellFormed, q: &[u8], out: &mut [u8]) -> Result<usize, Refusal>
+    ensures { Gives result out.old out.new (answers.list s.now.summary.bytes.now q.now (length out.old)) }
+{
+    match question::judge(q) {
+        Ok(needs) => {
+            if reach::beyond(&s.summary, needs) {
+                Err(Refusal::Beyond)
+            } else {
+                list_reached(s, q, needs, out)
+            }
+        }
+        Err(refusal) => Err(refusal),
+    }
+}
+
+// And the question is within what the summary can answer: the items, a class asked once and not once an item, and 9.
+fn list_reached(s: &WellFormed, q: &[u8], needs: Needs, out: &mut [u8]) -> Result<usize, Refusal>
+    requires { Reached s.now.summary.bytes.now q.now needs }
+    ensures { Gives result out.old out.new (answers.list s.now.summary.bytes.now q.now (length out.old)) }
+{
+    let c = s.summary.classes();
+    let mut held = [false; 1024];
+    list_answered(s, q, needs, &mut held[..c], out)
+}
+
+// The same, with room lent for the answer of each class.
+fn list_answered(
+    s: &WellFormed,
     q: &[u8],
-    depth: usize,
-    threshold: usize,
+    needs: Needs,
+    held: &mut [bool],
     out: &mut [u8],
 ) -> Result<usize, Refusal>
-    requires { Readied s.now keys.now q.now depth threshold }
-    ensures { Gives result out.old out.new (answers.list s.now q.now (length out.old)) }
+    requires { Reached s.now.summary.bytes.now q.now needs × (length held.old ≡ length (summary_in s.now.summary.bytes.now).classes) }
+    ensures { Gives result out.old out.new (answers.list s.now.summary.bytes.now q.now (length out.old)) }
 {
-    if reach::beyond(s, depth, threshold) {
-        return Err(Refusal::Beyond);
-    }
-    let mut answers = [false; 1024];
-    let c = reader::classes(s);
-    let Filled::Done = consult::put_answers(q, depth, s, keys, 0, c, &mut answers) else {
+    let Ok(()) = consult::put_answers(q, needs.depth, s, Class(0), held) else {
         return Err(Refusal::Question);
     };
     let mut named = [0u16; 1024];
-    let r = listed::put_items(s, &answers, &mut named);
+    let r = listed::put_items(s, held, &mut named);
     listed::put_list(&named[..r], out)
 }
 

@@ -18,9 +18,10 @@ use Rattle.meaning.specs.QuestionFile.{question}
 use Rattle.meaning.specs.declared.Refusal.{Refusal}
 use Rattle.meaning.specs.declared.Refusal.TheVariants.{Question as Malformation}
 use Rattle.entry.specs.Entries.{entry_at}
+use Rattle.entry.proofs.Laws.{clash}
 use Rattle.question.specs.declared.Tree.{Tree}
 use Rattle.question.specs.Read.{Parsed, Treeless, p_true, p_literal, p_not, p_and, p_or, p_least, Spans, joined, raised, accepted, refused, verdict_by, verdict}
-use Rattle.question.proofs.Laws.{forward, ends, shallow, under, parsed_one, parsed_question, question_length, question_parsed}
+use Rattle.question.proofs.Laws.{reads_first, forward, ends, shallow, under, parsed_one, parsed_question, question_length, question_parsed}
 
 -- ---- kinds by their tags, as a pattern of two kinds tells them
 
@@ -33,22 +34,35 @@ Two k = (k ≡ And) ⊎ (k ≡ Or)
 -- ---- a step of the recursion, by the kind of the entry
 
 module _ (q : List ℕ) (i : ℕ) where
-  -- no tree where an operand is none
-  no_not : entry_at q i ≡ some Not → Treeless q (i + 1) → Treeless q i
+  -- no tree where an entry is malformed, or an operand is none
+  pub no_entry : none ≡ entry_at q i → Treeless q i
+  no_entry e t j p = clash (e ∙ (reads_first p).1)
+
+  pub no_not : entry_at q i ≡ some Not → Treeless q (i + 1) → Treeless q i
   no_not e g t j p = g _ j (under p e).2
+
+  pub no_least : {d : Direction} {l t : ℕ} → entry_at q i ≡ some (AtLeast d l t) → Treeless q (i + 1) → Treeless q i
+  no_least e g t j p = g _ j (under p e).2
+
+  pub no_first : (k : Kind) → Two k → entry_at q i ≡ some k → Treeless q (i + 1) → Treeless q i
+  no_first k (inl h) e g t j p = g _ _ (under p (e ∙ ap some h)).4
+  no_first k (inr h) e g t j p = g _ _ (under p (e ∙ ap some h)).4
 
   pub no_second : (k : Kind) (s : Tree) → Two k → entry_at q i ≡ some k → Spans q (i + 1) (Ok s) → Treeless q s.next → Treeless q i
   unfolding Spans
   no_second k s (inl h) e o g t j w = let z = under w (e ∙ ap some h) in g z.1 j (subst (λ (c : ℕ). Parsed q c z.1 j) (parsed_one z.4 o.1).1 z.5)
   no_second k s (inr h) e o g t j w = let z = under w (e ∙ ap some h) in g z.1 j (subst (λ (c : ℕ). Parsed q c z.1 j) (parsed_one z.4 o.1).1 z.5)
 
-  spans_none : (r : Refusal) → Spans q i (Err r) → Treeless q i
+  pub spans_none : (r : Refusal) → Spans q i (Err r) → Treeless q i
   unfolding Spans
   spans_none r h = h.1
 
   none_spans : Treeless q i → Spans q i (Err Malformation)
   unfolding Spans
   none_spans g = (refl, g)
+
+  pub s_none : none ≡ entry_at q i → Spans q i (Err Malformation)
+  s_none e = none_spans (no_entry e)
 
   pub s_leaf : (k : Kind) → Leaf k → entry_at q i ≡ some k → Spans q i (Ok (record { depth = 0; threshold = 0; next = i + 1 }))
   unfolding Spans depth threshold
@@ -78,10 +92,18 @@ module _ (q : List ℕ) (i : ℕ) where
   unfolding Spans
   s_shallow s (u, p, f, g) = omega (arith, shallow p)
 
--- an operand that is refused
-pub s_second_none : (q : List ℕ) (i : ℕ) (k : Kind) (s : Tree) (r : Refusal) → Two k → entry_at q i ≡ some k → Spans q (i + 1) (Ok s) →
-    Spans q s.next (Err r) → Spans q i (Err Malformation)
-s_second_none q i k s r two e h g = none_spans q i (no_second q i k s two e h (spans_none q s.next r g))
+-- ---- an operand that is refused
+
+module _ (q : List ℕ) (i : ℕ) where
+  pub s_least_none : {d : Direction} {l t : ℕ} (r : Refusal) → entry_at q i ≡ some (AtLeast d l t) → Spans q (i + 1) (Err r) → Spans q i (Err Malformation)
+  s_least_none r e h = none_spans q i (no_least q i e (spans_none q (i + 1) r h))
+
+  pub s_first_none : (k : Kind) (r : Refusal) → Two k → entry_at q i ≡ some k → Spans q (i + 1) (Err r) → Spans q i (Err Malformation)
+  s_first_none k r two e h = none_spans q i (no_first q i k two e (spans_none q (i + 1) r h))
+
+  pub s_second_none : (k : Kind) (s : Tree) (r : Refusal) → Two k → entry_at q i ≡ some k → Spans q (i + 1) (Ok s) → Spans q s.next (Err r) →
+      Spans q i (Err Malformation)
+  s_second_none k s r two e h g = none_spans q i (no_second q i k s two e h (spans_none q s.next r g))
 
 -- ---- one answer only
 

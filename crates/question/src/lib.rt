@@ -56,7 +56,6 @@ fn raised(least: usize, operand: Tree) -> Tree
 }
 
 // The tree that stands at entry `at`, "root first, each operator followed by its operands". The entries left fall.
-#[tactic(auto, unfolding(crate::specs::Read::Spans))]
 pub fn span(q: &[u8], at: usize) -> Result<Tree, Refusal>
     ensures { Spans q.now at result }
 {

@@ -1,22 +1,16 @@
 -- What the check says, or 6.
-use mathlib.Core.Path.{sym, ap, ◌∙◌}
-use Rattle.meaning.specs.Answers.{word}
-use Rattle.matching.proofs.Laws.{keyed_as}
+use Rattle.std.proofs.Common.{ap, ◌∙◌}
+use Rattle.meaning.specs.Refusals.{number_of}
+use Rattle.meaning.specs.Answers.{word, number, returned, check}
 use Rattle.hestovane.proofs.Laws.{check_six, check_said}
-use borrow.Author.Rules.{rules}
 use Rattle.hestovane.proofs.check_accepted.Goals as goal
 
-pub check-requires : goal.check-requires
-check-requires c =
-    let j = c.judge in
-    let yes = c.if-judge.true in
-    (c.requires, sym j.ensures.0 ∙ yes, search rules, keyed_as _ _ _ yes j.ensures.1)
-
-pub returns-then-judge : goal.returns-then-judge
-returns-then-judge c =
+pub returns-in-Ok : goal.returns-in-Ok
+returns-in-Ok c =
+    let r = c.in-Ok.read in
     ap word c.check.ensures
-    ∙ check_said _ _ c.requires.fine
-    (sym c.judge.ensures.0 ∙ c.if-judge.true)
+    ∙ check_said _ _ c.args.reg.now.accepted.fine r.well
+    ∙ ap (λ s. returned (check c.args.reg.now.bytes.now s)) c.in-Ok.ensures
 
-pub returns : goal.returns
-returns c = check_six _ _ c.requires.fine (sym c.judge.ensures.0 ∙ c.if-judge.false)
+pub returns-in-Err : goal.returns-in-Err
+returns-in-Err c = ap (λ r. number (number_of r)) c.in-Err.ensures.0 ∙ check_six _ _ c.args.reg.now.accepted.fine c.in-Err.ensures.1

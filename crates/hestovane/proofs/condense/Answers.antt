@@ -1,11 +1,14 @@
 -- 1, 2 and 3 as judging the register gives them.
-use mathlib.Core.Path.{sym, ap, ◌∙◌}
-use Rattle.register.specs.Told.{told}
-use Rattle.hestovane.proofs.Laws.{of_register, condense_refused}
+use Rattle.std.proofs.Common.{ap, length}
+use Rattle.meaning.specs.Answers.{condense}
+use Rattle.said.proofs.Laws.{gives_this}
+use Rattle.hestovane.proofs.Laws.{condense_refused}
 use Rattle.hestovane.proofs.condense.Goals as goal
 
-pub condense_accepted-requires : goal.condense_accepted-requires
-condense_accepted-requires c = of_register _ _ _ (sym (ap told c.in-Accepted.is) ∙ c.judge-judged.ensures)
+pub returns-in-Ok : goal.returns-in-Ok
+returns-in-Ok c =
+    let a = c.args in
+    gives_this _ _ _ _ _ (ap (λ b. condense a.i a.mu a.nu b (length a.out.now)) c.in-Ok.ensures.holds) c.condense_accepted.ensures
 
-pub returns-in-Refused : goal.returns-in-Refused
-returns-in-Refused c = condense_refused _ _ _ _ _ _ (sym (ap told c.in-Refused.is) ∙ c.judge-judged.ensures)
+pub returns-in-Err : goal.returns-in-Err
+returns-in-Err c = condense_refused _ _ _ _ _ _ c.in-Err.ensures.says

@@ -1,32 +1,14 @@
--- 6, then 5.
-use mathlib.Core.Path.{sym, ap, ◌∙◌}
-use Rattle.question.specs.Read.{told}
-use Rattle.question.proofs.Laws.{verdict_refused}
-use Rattle.matching.proofs.Laws.{keyed_as}
-use Rattle.meaning.specs.Answers
+-- 6 as judging the summary gives it.
+use Rattle.std.proofs.Common.{ap, length}
+use Rattle.meaning.specs.Answers.{list}
 use Rattle.said.proofs.Laws.{gives_this}
-use Rattle.hestovane.proofs.OnSummary.{list_six, list_five, readied, gives_refused}
-use borrow.Author.Rules.{rules}
+use Rattle.hestovane.proofs.OnSummary.{list_refused_six}
 use Rattle.hestovane.proofs.list.Goals as goal
 
-pub returns-then-not-judge : goal.returns-then-not-judge
-returns-then-not-judge c = gives_this _ _ _ _ _ (list_six _ _ _ (sym c.judge.ensures.0 ∙ c.if-not-judge.true)) (gives_refused _ _)
+pub returns-in-Ok : goal.returns-in-Ok
+returns-in-Ok c =
+    let a = c.args in
+    gives_this _ _ _ _ _ (ap (λ s. list s a.q.now (length a.out.now)) c.in-Ok.ensures) c.list_read.ensures
 
-pub list_read-requires : goal.list_read-requires
-list_read-requires c =
-    let yes = c.if-not-judge.false in
-    readied _ _ _ _ _ (sym c.judge.ensures.0 ∙ yes) (search rules)
-    (keyed_as _ _ _ yes c.judge.ensures.1)
-    (sym (ap told c.in-Accepted.is) ∙ c.judge-judged.ensures)
-
-pub returns-in-Accepted : goal.returns-in-Accepted
-returns-in-Accepted c = c.list_read.ensures
-
-pub returns-in-Refused : goal.returns-in-Refused
-returns-in-Refused c =
-    let v = verdict_refused _ _ (sym (ap told c.in-Refused.is) ∙ c.judge-judged.ensures) in
-    gives_this _ _ _ _ _
-    (ap Answers.refused v.1
-    ∙ list_five _ _ _
-    (sym c.judge.ensures.0 ∙ c.if-not-judge.false) v.0)
-    (gives_refused _ _)
+pub returns-in-Err : goal.returns-in-Err
+returns-in-Err c = list_refused_six _ _ _ _ c.in-Err.ensures.0 c.in-Err.ensures.1
