@@ -8,9 +8,6 @@ use Rattle.listed.proofs.Laws.{mapped}
 use Rattle.hestovane.proofs.OnSummary.{beyond_by, ask_seven, ask_eight, ask_at, at_class}
 use Rattle.hestovane.proofs.ask_read.Goals as goal
 
-pub beyond-requires : goal.beyond-requires
-beyond-requires c = c.requires.well
-
 pub returns-then-beyond : goal.returns-then-beyond
 returns-then-beyond c =
     let s = c.requires in

@@ -7,8 +7,5 @@ use Rattle.hestovane.proofs.check.Goals as goal
 pub check_accepted-requires : goal.check_accepted-requires
 check_accepted-requires c = of_register _ _ _ (sym (ap told c.in-Accepted.is) ∙ c.judge-judged.ensures)
 
-pub returns-in-Accepted : goal.returns-in-Accepted
-returns-in-Accepted c = c.check_accepted.ensures
-
 pub returns-in-Refused : goal.returns-in-Refused
 returns-in-Refused c = check_refused _ _ _ (sym (ap told c.in-Refused.is) ∙ c.judge-judged.ensures)

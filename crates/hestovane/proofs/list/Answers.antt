@@ -19,9 +19,6 @@ list_read-requires c =
     (keyed_as _ _ _ yes c.judge.ensures.1)
     (sym (ap told c.in-Accepted.is) ∙ c.judge-judged.ensures)
 
-pub returns-in-Accepted : goal.returns-in-Accepted
-returns-in-Accepted c = c.list_read.ensures
-
 pub returns-in-Refused : goal.returns-in-Refused
 returns-in-Refused c =
     let v = verdict_refused _ _ (sym (ap told c.in-Refused.is) ∙ c.judge-judged.ensures) in

@@ -3,18 +3,14 @@ use native.Mathlib.Omega.{arith}
 use mathlib.Core.Path.{sym, ap, ◌∙◌}
 use mathlib.Core.List.{List}
 use Prim.Native.Nat.{ℕ}
-use lib.ListN.{length, length-take}
+use lib.ListN.{length}
 use Rattle.meaning.specs.Bytes.{put2, pack}
 use Rattle.meaning.specs.Answers.{into}
 use Rattle.question.proofs.Laws.{parsed_question, done_not_refused}
 use Rattle.header.proofs.File.{well_file}
 use Rattle.said.proofs.Laws.{gives_this}
-use Rattle.hestovane.proofs.OnSummary.{beyond_by, list_seven, list_into, gives_refused, list_named, few_named}
-use borrow.Author.Rules.{rules}
+use Rattle.hestovane.proofs.OnSummary.{beyond_by, list_seven, list_into, gives_refused, list_named}
 use Rattle.hestovane.proofs.list_read.Goals as goal
-
-pub beyond-requires : goal.beyond-requires
-beyond-requires c = c.requires.well
 
 pub returns-then-beyond : goal.returns-then-beyond
 returns-then-beyond c =
@@ -27,24 +23,10 @@ returns-then-beyond c =
 pub classes-c-requires : goal.classes-c-requires
 classes-c-requires c = (well_file _ c.requires.well).0
 
-pub put_answers-requires : goal.put_answers-requires
-put_answers-requires c =
-    let s = c.requires in
-    (s.well, s.keys_long, s.kept, omega (arith, c.classes-c.ensures.0), search rules)
-
 pub returns-in_default : goal.returns-in_default
 returns-in_default c =
     let s = c.requires in
     absurd (done_not_refused _ _ (c.put_answers.ensures s.tree _ (parsed_question _ s.tree s.reads)).0 c.in_default.is)
-
-pub put_items-r-requires : goal.put_items-r-requires
-put_items-r-requires c = (c.requires.well, search rules, search rules)
-
-pub slice_bounds-put_list-end : goal.slice_bounds-put_list-end
-slice_bounds-put_list-end c = omega (arith, length-take {A = ℕ}, few_named _ _ _ c.requires.well c.put_items-r.ensures.0)
-
-pub put_list-requires : goal.put_list-requires
-put_list-requires c = omega (arith, length-take {A = ℕ}, few_named _ _ _ c.requires.well c.put_items-r.ensures.0)
 
 pub returns : goal.returns
 returns c =
