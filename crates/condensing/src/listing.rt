@@ -34,10 +34,8 @@ fn fields(text: &mut [u8], at: usize, s: &[u8], from: usize, count: u8) -> usize
     requires { from < 1048576 }
 {
     let mut now = at;
-    let mut k: u8 = 0;
-    while k < count {
+    for k in 0..count {
         now = page::field(text, now, page::two(s, from + 2 * k as usize) as u64);
-        k += 1;
     }
     now
 }
@@ -45,10 +43,8 @@ fn fields(text: &mut [u8], at: usize, s: &[u8], from: usize, count: u8) -> usize
 fn classes(text: &mut [u8], at: usize, s: &[u8]) -> usize {
     let count = page::two(s, 6);
     let mut now = at;
-    let mut k: u16 = 0;
-    while k < count {
+    for k in 0..count {
         now = class(text, now, s, k);
-        k += 1;
     }
     now
 }
@@ -66,8 +62,7 @@ fn rows(text: &mut [u8], at: usize, s: &[u8]) -> usize {
     let count = page::two(s, 10);
     let from = page::two(s, 18) as usize;
     let mut now = at;
-    let mut k: u16 = 0;
-    while k < count {
+    for k in 0..count {
         now = record(
             text,
             now,
@@ -76,7 +71,6 @@ fn rows(text: &mut [u8], at: usize, s: &[u8]) -> usize {
             from + 2 * summary::ROW * k as usize,
             4,
         );
-        k += 1;
     }
     now
 }
@@ -85,8 +79,7 @@ fn edges(text: &mut [u8], at: usize, s: &[u8]) -> usize {
     let count = page::two(s, 12);
     let from = page::two(s, 20) as usize;
     let mut now = at;
-    let mut k: u16 = 0;
-    while k < count {
+    for k in 0..count {
         now = record(
             text,
             now,
@@ -95,7 +88,6 @@ fn edges(text: &mut [u8], at: usize, s: &[u8]) -> usize {
             from + 2 * summary::EDGE * k as usize,
             3,
         );
-        k += 1;
     }
     now
 }
@@ -112,10 +104,8 @@ fn record(text: &mut [u8], at: usize, word: &[u8], s: &[u8], from: usize, count:
 fn items(text: &mut [u8], at: usize, s: &[u8]) -> usize {
     let count = page::two(s, 14);
     let mut now = at;
-    let mut x: u16 = 0;
-    while x < count {
+    for x in 0..count {
         now = item(text, now, s, x);
-        x += 1;
     }
     now
 }

@@ -3,7 +3,6 @@
 #![tactic(auto)]
 
 use meaning::Refusal;
-use said::Wrote;
 
 mod listing;
 mod page;
@@ -28,9 +27,8 @@ fn answer(asked: &[u8], text: &mut [u8]) {
     let i = page::two(asked, 0);
     let mu = page::two(asked, 2);
     let nu = page::two(asked, 4);
-    let wrote = hestovane::condense(&reg[..len], i, mu, nu, &mut out);
-    match wrote {
-        Wrote::Length(_) => listing::whole(text, &out),
-        Wrote::Refused(refusal) => listing::refused(text, refusal),
+    match hestovane::condense(&reg[..len], i, mu, nu, &mut out) {
+        Ok(_) => listing::whole(text, &out),
+        Err(refusal) => listing::refused(text, refusal),
     }
 }

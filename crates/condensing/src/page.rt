@@ -13,10 +13,8 @@ pub fn byte(text: &mut [u8], at: usize, b: u8) -> usize {
 
 pub fn word(text: &mut [u8], at: usize, w: &[u8]) -> usize {
     let mut now = at;
-    let mut k = 0;
-    while k < w.len() {
-        now = byte(text, now, w[k]);
-        k += 1;
+    for &b in w {
+        now = byte(text, now, b);
     }
     now
 }

@@ -1,17 +1,16 @@
 // The commands that make the proved calls, on the kept files, and what is told of them: a letter, or an answer of three words.
 use meaning::Refusal;
 use register::Judged;
-use said::{Said, Wrote};
 use trial_cases::kept::Kept;
 use trial_cases::told::Told;
 use trial_cases::{bytes, files, lent, page, told};
 
 // "`y` or `n` for what a check or a question says, or the digit of the refusal".
-fn letter(said: Said) -> u8 {
+fn letter(said: Result<bool, Refusal>) -> u8 {
     match said {
-        Said::Yes => b'y',
-        Said::No => b'n',
-        Said::Refused(refusal) => b'0' + meaning::number(refusal) % 10,
+        Ok(true) => b'y',
+        Ok(false) => b'n',
+        Err(refusal) => b'0' + meaning::number(refusal) % 10,
     }
 }
 
@@ -84,13 +83,13 @@ fn told_refused(page: &mut [u8], at: usize, refusal: Refusal) -> usize {
     page::field(page, at, meaning::number(refusal) as u64)
 }
 
-fn told_wrote(page: &mut [u8], at: usize, wrote: Wrote) -> usize {
+fn told_wrote(page: &mut [u8], at: usize, wrote: Result<usize, Refusal>) -> usize {
     match wrote {
-        Wrote::Length(length) => {
+        Ok(length) => {
             let at = bytes::put_all(page, at, b"wrote");
             page::field(page, at, length as u64)
         }
-        Wrote::Refused(refusal) => told_refused(page, at, refusal),
+        Err(refusal) => told_refused(page, at, refusal),
     }
 }
 
@@ -107,7 +106,7 @@ pub fn answer(what: u8, files: &[u8], page: &mut [u8], kept: Kept, told: Told) -
 // What a call wrote into a lent buffer, and the hash of the buffer after it.
 #[derive(Clone, Copy)]
 struct Lent {
-    wrote: Wrote,
+    wrote: Result<usize, Refusal>,
     hash: u64,
 }
 
@@ -119,7 +118,7 @@ fn lend(what: u8, files: &[u8], kept: Kept, out: &mut [u8]) -> Lent {
 }
 
 // Condensing or listing.
-fn write(what: u8, files: &[u8], kept: Kept, out: &mut [u8]) -> Wrote {
+fn write(what: u8, files: &[u8], kept: Kept, out: &mut [u8]) -> Result<usize, Refusal> {
     let register = files::of(files, kept.register);
     let summary = files::of(files, kept.summary);
     let question = files::of(files, kept.question);
@@ -139,9 +138,9 @@ pub fn make(files: &mut [u8], kept: Kept) -> Kept {
     kept.with_length(b's', len)
 }
 
-fn length(wrote: Wrote) -> u16 {
+fn length(wrote: Result<usize, Refusal>) -> u16 {
     match wrote {
-        Wrote::Length(length) => bytes::within(length, 65535) as u16,
-        Wrote::Refused(_) => 0,
+        Ok(length) => bytes::within(length, 65535) as u16,
+        Err(_) => 0,
     }
 }
