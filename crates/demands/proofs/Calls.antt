@@ -1,5 +1,6 @@
 -- Each of the ten functions of src/lib.rt as a relation: its arguments, the value handed back, and what the lent buffer holds afterwards. What
 -- it says is the function's own contract, and no copy: `Learnt` is made by the checker from the clauses, and is all that a caller is told.
+use mathlib.Core.Bool.{Bool}
 use mathlib.Core.List.{List}
 use Prim.Native.Nat.{ℕ}
 use lib.IntN.{ℤ}
@@ -8,8 +9,8 @@ use denote.Ref.{Bor}
 use denote.MutBor.{MutBor}
 use denote.Triple.Entry.{Args}
 use denote.Triple.Clauses.{at_exit}
-use Rattle.said.specs.declared.Said.{Said}
-use Rattle.said.specs.declared.Wrote.{Wrote}
+use Rattle.std.proofs.Common.{Result}
+use Rattle.meaning.specs.declared.Refusal.{Refusal}
 use Rattle.hestovane.specs.contracts.condense as condense-call
 use Rattle.hestovane.proofs.condense.Reads as condense-reads
 use Rattle.hestovane.specs.contracts.check as check-call
@@ -41,27 +42,27 @@ Buffer = MutBor (List ℕ)
 
 -- ---- a call and what its contract says of it: the value handed back, and last what the lent buffer holds afterwards
 
-abbrev pub Condensed : Lfts 2 → (reg : Slice) (i µ ν : ℕ) (out : Buffer) → Wrote → List ℕ → Type 0
+abbrev pub Condensed : Lfts 2 → (reg : Slice) (i µ ν : ℕ) (out : Buffer) → Result ℕ Refusal → List ℕ → Type 0
 Condensed κs reg i µ ν out r after =
     let a : Args condense-call.signature κs = (reg, (i, (µ, (ν, (out, tt))))) in
     condense-reads.Learnt κs a r (at_exit condense-call.ended κs a (tt, (tt, (tt, (tt, (after, tt))))))
 
-abbrev pub Checked : Lfts 2 → (reg s : Slice) → Said → Type 0
+abbrev pub Checked : Lfts 2 → (reg s : Slice) → Result Bool Refusal → Type 0
 Checked κs reg s r =
     let a : Args check-call.signature κs = (reg, (s, tt)) in
     check-reads.Learnt κs a r (at_exit check-call.ended κs a (tt, (tt, tt)))
 
-abbrev pub AskedRegister : Lfts 2 → (reg q : Slice) → ℕ → Said → Type 0
+abbrev pub AskedRegister : Lfts 2 → (reg q : Slice) → ℕ → Result Bool Refusal → Type 0
 AskedRegister κs reg q x r =
     let a : Args ask-register-call.signature κs = (reg, (q, (x, tt))) in
     ask-register-reads.Learnt κs a r (at_exit ask-register-call.ended κs a (tt, (tt, (tt, tt))))
 
-abbrev pub AskedSummary : Lfts 2 → (s q : Slice) → ℕ → Said → Type 0
+abbrev pub AskedSummary : Lfts 2 → (s q : Slice) → ℕ → Result Bool Refusal → Type 0
 AskedSummary κs s q x r =
     let a : Args ask-summary-call.signature κs = (s, (q, (x, tt))) in
     ask-summary-reads.Learnt κs a r (at_exit ask-summary-call.ended κs a (tt, (tt, (tt, tt))))
 
-abbrev pub Listed : Lfts 3 → (s q : Slice) (out : Buffer) → Wrote → List ℕ → Type 0
+abbrev pub Listed : Lfts 3 → (s q : Slice) (out : Buffer) → Result ℕ Refusal → List ℕ → Type 0
 Listed κs s q out r after =
     let a : Args list-call.signature κs = (s, (q, (out, tt))) in
     list-reads.Learnt κs a r (at_exit list-call.ended κs a (tt, (tt, (after, tt))))

@@ -13,6 +13,7 @@ use lib.ListN.{length, take, drop}
 use lib.Seq.{take-append_seam}
 use contract.Lifetimes.{Lfts}
 use borrow.Fn.World.{World}
+use Rattle.std.proofs.Common.{Ok}
 use Rattle.meaning.specs.Register.{Register, items}
 use Rattle.meaning.specs.Question.{Question, depth, threshold, holds}
 use Rattle.meaning.specs.Bytes.{Bytes, put2, pack}
@@ -31,7 +32,6 @@ use Rattle.theory.proofs.ShapeLaws.{accepted_fine}
 use Rattle.theory.proofs.WellMade.{level_least}
 use Rattle.promise.proofs.Promise.{fault_accepted, made_back, made_well, condense_wrote}
 use Rattle.said.specs.Written.{Gives}
-use Rattle.said.specs.declared.Wrote.TheVariants.{Length}
 use Rattle.demands.proofs.Held.{Held, condense_bytes, hestovane_condense_bytes}
 use Rattle.hestovane.proofs.OneAnswer.{clash}
 use Rattle.hestovane.specs.contracts.condense as condense-call
@@ -43,7 +43,7 @@ use Rattle.demands.proofs.Calls.{Slice, Buffer, Condensed, CCondensed}
 pub data Made (w : World) (i µ ν : ℕ) (b s : List ℕ) : Type 1 where
   condensed : (κs : Lfts 2) (reg : Slice) (out : Buffer) (k : ℕ) (after : List ℕ) →
       Held w condense-call.signature κs (reg, (i, (µ, (ν, (out, tt))))) →
-      Condensed κs reg i µ ν out (Length k) after → reg.now ≡ b → take k after ≡ s → Made w i µ ν b s
+      Condensed κs reg i µ ν out (Ok k) after → reg.now ≡ b → take k after ≡ s → Made w i µ ν b s
   hestovane_condensed : (κs : Lfts 2) (reg : Slice) (out : Buffer) (k : ℕ) (after : List ℕ) →
       Held w c-condense-call.signature κs (i, (µ, (ν, (reg, (out, tt))))) →
       CCondensed κs i µ ν reg out (pos k) after → reg.now ≡ b → take k after ≡ s → Made w i µ ν b s
@@ -54,7 +54,7 @@ pub record Written (i µ ν : ℕ) (b s : List ℕ) : Type 0 where
   pub room : ℕ
   pub wrote_is : condense i µ ν b room ≡ wrote s
 
-pub wrote_gives : (a : Answer) (k : ℕ) (d d' : List ℕ) → Gives (Length k) d d' a → a ≡ wrote (take k d')
+pub wrote_gives : (a : Answer) (k : ℕ) (d d' : List ℕ) → Gives (Ok k) d d' a → a ≡ wrote (take k d')
 unfolding returned left
 wrote_gives (refused j) k d d' g = let e = g.says in clash cc
 wrote_gives (said t) k d d' g = let e = g.says in clash cc

@@ -14,6 +14,7 @@ use lib.IntN.{ℤ, pos, negsuc}
 use lib.ListN.{length, take, drop}
 use contract.Lifetimes.{Lfts}
 use borrow.Fn.World.{World}
+use Rattle.std.proofs.Common.{Result, Ok, Err}
 use Rattle.meaning.specs.Count.{those, any, ascends}
 use Rattle.meaning.specs.Register.{items}
 use Rattle.meaning.specs.Question.{Question, depth, threshold, holds}
@@ -22,6 +23,7 @@ use Rattle.meaning.specs.RegisterFile.{register_in}
 use Rattle.meaning.specs.QuestionFile.{question}
 use Rattle.meaning.specs.Answers.{Answer, refused, said, wrote, number, size, returned, code, left, into, ask_register}
 use Rattle.meaning.specs.Answers
+use Rattle.meaning.specs.declared.Refusal.{Refusal}
 use Rattle.meaning.specs.declared.Refusal.TheVariants.{Room}
 use Rattle.theory.proofs.CountLaws.{by_bool}
 use Rattle.theory.proofs.Demand.{in_those, those_ascending}
@@ -30,10 +32,6 @@ use Rattle.promise.proofs.Promise.{condense_wrote, demand_3_calls, checked, aske
 use Rattle.said.specs.Told.{told}
 use Rattle.said.specs.Written as written
 use Rattle.said.specs.Written.{Gives}
-use Rattle.said.specs.declared.Said.{Said}
-use Rattle.said.specs.declared.Said.TheVariants.{Yes}
-use Rattle.said.specs.declared.Wrote.{Wrote}
-use Rattle.said.specs.declared.Wrote.TheVariants.{Length, Refused}
 use Rattle.hestovane.proofs.OneAnswer.{clash, said_one, wrote_one}
 use Rattle.demands.proofs.Calls.{Slice, Buffer, Checked, AskedRegister, AskedSummary, Listed, CChecked, CAskedRegister, CAskedSummary, CListed}
 use Rattle.demands.proofs.Made.{Made, Written, made_written, wrote_gives, wrote_code, list_fills}
@@ -101,8 +99,8 @@ pub record Exact (b q d : List ℕ) (k : ℕ) (after : List ℕ) : Type 0 where
   pub length_is : k ≡ 2 * length found
   pub buffer_is : after ≡ pack put2 found ++ drop k d
   pub ascending : ascends (λ x. x) found ≡ true
-  pub named : (κs : Lfts 2) (reg q' : Slice) (x : ℕ) (r : Said) → AskedRegister κs reg q' x r → reg.now ≡ b → q'.now ≡ q →
-      any (eqb x) found ≡ true ↔ r ≡ Yes
+  pub named : (κs : Lfts 2) (reg q' : Slice) (x : ℕ) (r : Result Bool Refusal) → AskedRegister κs reg q' x r → reg.now ≡ b → q'.now ≡ q →
+      any (eqb x) found ≡ true ↔ r ≡ Ok true
   pub hestovane_named : (κs : Lfts 2) (reg q' : Slice) (x : ℕ) (r : ℤ) → CAskedRegister κs reg q' x r → reg.now ≡ b → q'.now ≡ q →
       any (eqb x) found ≡ true ↔ r ≡ pos 1
 
@@ -116,11 +114,11 @@ module _ {w : World} {i µ ν : ℕ} {b s : List ℕ} (m : Made w i µ ν b s) w
   check_answer = checked i µ ν b s W.room W.bytes W.wrote_is
 
   -- "the check says yes"
-  pub made_checked : (κs : Lfts 2) (reg s' : Slice) (r : Said) → Checked κs reg s' r → reg.now ≡ b → s'.now ≡ s → r ≡ Yes
+  pub made_checked : (κs : Lfts 2) (reg s' : Slice) (r : Result Bool Refusal) → Checked κs reg s' r → reg.now ≡ b → s'.now ≡ s → r ≡ Ok true
   unfolding returned
   made_checked κs reg s' r e f g =
       let yes : Answers.check reg.now s'.now ≡ said true = rw (f, g) check_answer in
-      said_one r Yes (e ∙ ap returned yes)
+      said_one r (Ok true) (e ∙ ap returned yes)
 
   pub hestovane_made_checked : (κs : Lfts 2) (reg s' : Slice) (r : ℤ) → CChecked κs reg s' r → reg.now ≡ b → s'.now ≡ s → r ≡ pos 1
   unfolding returned code
@@ -134,8 +132,8 @@ module _ {w : World} {i µ ν : ℕ} {b s : List ℕ} (m : Made w i µ ν b s) w
 
     -- "Given room for the list, the list worked out from summary and question alone names every item at which the question holds in the full
     -- register, each exactly once, in ascending order, and no other": two bytes an item, and the bytes past them stay; else 9 and no byte changes
-    pub made_listed : (κs : Lfts 3) (s' q : Slice) (out : Buffer) (r : Wrote) (after : List ℕ) → Listed κs s' q out r after →
-        s'.now ≡ s → question q.now ≡ some t → Names Length (Refused Room) (Found b t) out.now r after
+    pub made_listed : (κs : Lfts 3) (s' q : Slice) (out : Buffer) (r : Result ℕ Refusal) (after : List ℕ) → Listed κs s' q out r after →
+        s'.now ≡ s → question q.now ≡ some t → Names Ok (Err Room) (Found b t) out.now r after
     made_listed κs s' q out r after e f read =
         let one = list_answer s'.now q.now (length out.now) f read in
         let n = names (Found b t) out.now in
@@ -143,8 +141,8 @@ module _ {w : World} {i µ ν : ℕ} {b s : List ℕ} (m : Made w i µ ν b s) w
         let leaves : after ≡ left (into (length out.now) (pack put2 (Found b t))) out.now =
         e.leaves ∙ ap (λ (a : Answer). left a out.now) one in
         record {
-          enough = λ h. (wrote_one r (Length (2 * length (Found b t))) (says ∙ (n.0 h).0), leaves ∙ (n.0 h).1);
-          short = λ h. (wrote_one r (Refused Room) (says ∙ (n.1 h).0), leaves ∙ (n.1 h).1);
+          enough = λ h. (wrote_one r (Ok (2 * length (Found b t))) (says ∙ (n.0 h).0), leaves ∙ (n.0 h).1);
+          short = λ h. (wrote_one r (Err Room) (says ∙ (n.1 h).0), leaves ∙ (n.1 h).1);
         }
 
     pub hestovane_made_listed : (κs : Lfts 3) (s' q : Slice) (out : Buffer) (r : ℤ) (after : List ℕ) → CListed κs s' q out r after →
@@ -166,13 +164,13 @@ module _ {w : World} {i µ ν : ℕ} {b s : List ℕ} (m : Made w i µ ν b s) w
     asked_there c q x f read = ap (λ (c : List ℕ). ask_register c q x) f ∙ asked_as b q t x (condense_wrote i µ ν b W.room s W.wrote_is).0 read
 
     -- and an item is named exactly when asking the register at it says yes
-    pub made_named : (κs : Lfts 2) (reg q : Slice) (x : ℕ) (r : Said) → AskedRegister κs reg q x r →
-        reg.now ≡ b → question q.now ≡ some t → any (eqb x) (Found b t) ≡ true ↔ r ≡ Yes
+    pub made_named : (κs : Lfts 2) (reg q : Slice) (x : ℕ) (r : Result Bool Refusal) → AskedRegister κs reg q x r →
+        reg.now ≡ b → question q.now ≡ some t → any (eqb x) (Found b t) ≡ true ↔ r ≡ Ok true
     made_named κs reg q x r e f read =
         let n = yes_word (ltb x (items (register_in b))) (holds (register_in b) t x) in
         let a = asked_there reg.now q.now x f read in
         rw (in_those (holds (register_in b) t) (items (register_in b)) x)
-        (λ h. said_one r Yes (e ∙ ap returned a ∙ n.0 h), λ h. n.1 (sym (ap returned a) ∙ sym e ∙ ap told h))
+        (λ h. said_one r (Ok true) (e ∙ ap returned a ∙ n.0 h), λ h. n.1 (sym (ap returned a) ∙ sym e ∙ ap told h))
 
     pub hestovane_made_named : (κs : Lfts 2) (reg q : Slice) (x : ℕ) (r : ℤ) → CAskedRegister κs reg q x r →
         reg.now ≡ b → question q.now ≡ some t → any (eqb x) (Found b t) ≡ true ↔ r ≡ pos 1
@@ -189,7 +187,7 @@ module _ {w : World} {i µ ν : ℕ} {b s : List ℕ} (m : Made w i µ ν b s) w
         (λ h. asked_same i µ ν b s q t x W.room W.bytes W.wrote_is read deep few (ltb-true x (items (register_in b)) h))
         (λ h. past_asked i µ ν b s q t x W read deep few (ltb-false x (items (register_in b)) h) ∙ sym (asked_there b q x refl read ∙ rw h))
 
-    pub made_asked : (κs κs' : Lfts 2) (s' q reg q' : Slice) (x : ℕ) (r r' : Said) → AskedSummary κs s' q x r →
+    pub made_asked : (κs κs' : Lfts 2) (s' q reg q' : Slice) (x : ℕ) (r r' : Result Bool Refusal) → AskedSummary κs s' q x r →
         AskedRegister κs' reg q' x r' → s'.now ≡ s → reg.now ≡ b → q.now ≡ q'.now → question q.now ≡ some t → r ≡ r'
     made_asked κs κs' s' q reg q' x r r' e e' f g same read =
         let one : Answers.ask_summary s'.now q.now x ≡ ask_register reg.now q'.now x = rw (f, g, sym same) (ask_answer q.now x read) in
@@ -222,10 +220,10 @@ module _ {w : World} {i µ ν : ℕ} {b s : List ℕ} (m : Made w i µ ν b s) w
         hestovane_named = λ κs reg q' x y h u v. hestovane_made_named t r.2 r.3 κs reg q' x y h u (ap question v ∙ r.1);
       }
 
-  pub demand_3 : (κs : Lfts 3) (s' q : Slice) (out : Buffer) (k : ℕ) (after : List ℕ) → Listed κs s' q out (Length k) after → s'.now ≡ s →
+  pub demand_3 : (κs : Lfts 3) (s' q : Slice) (out : Buffer) (k : ℕ) (after : List ℕ) → Listed κs s' q out (Ok k) after → s'.now ≡ s →
       Exact b q.now out.now k after
   demand_3 κs s' q out k after e f =
-      let g = subst (λ (v : List ℕ). Gives (Length k) out.now after (Answers.list v q.now (length out.now))) f e in
+      let g = subst (λ (v : List ℕ). Gives (Ok k) out.now after (Answers.list v q.now (length out.now))) f e in
       let a = Answers.list s q.now (length out.now) in
       exact q.now out.now after k (wrote_gives a k out.now after g) g.leaves g.says
 
