@@ -4,7 +4,6 @@
 
 use meaning::Refusal;
 use page::{Page, bytes};
-use said::Wrote;
 
 mod listing;
 
@@ -28,9 +27,8 @@ fn answer(page: &mut Page, asked: &[u8; 6]) {
     let i = bytes::two(asked, 0);
     let mu = bytes::two(asked, 2);
     let nu = bytes::two(asked, 4);
-    let wrote = hestovane::condense(&reg[..len], i, mu, nu, &mut out);
-    match wrote {
-        Wrote::Length(_) => listing::whole(page, &out),
-        Wrote::Refused(refusal) => listing::refused(page, refusal),
+    match hestovane::condense(&reg[..len], i, mu, nu, &mut out) {
+        Ok(_) => listing::whole(page, &out),
+        Err(refusal) => listing::refused(page, refusal),
     }
 }

@@ -1,8 +1,6 @@
 // The commands that make the proved calls, on the kept files, and what is told of them: a letter, or an answer of three words.
 use meaning::Refusal;
 use page::Page;
-use register::Judged;
-use said::{Said, Wrote};
 use trial_cases::command::Caps;
 use trial_cases::file::{File, SIZE};
 use trial_cases::kept::Kept;
@@ -10,11 +8,11 @@ use trial_cases::told::Told;
 use trial_cases::{Stopped, lent};
 
 // "`y` or `n` for what a check or a question says, or the digit of the refusal".
-fn letter(said: Said) -> u8 {
+fn letter(said: Result<bool, Refusal>) -> u8 {
     match said {
-        Said::Yes => b'y',
-        Said::No => b'n',
-        Said::Refused(refusal) => b'0' + meaning::number(refusal) % 10,
+        Ok(true) => b'y',
+        Ok(false) => b'n',
+        Err(refusal) => b'0' + meaning::number(refusal) % 10,
     }
 }
 
@@ -35,7 +33,7 @@ pub fn ask_summary(kept: &Kept, told: &mut Told, times: u8) {
 }
 
 // "asked .. at k items in turn, from the item number on".
-fn in_turn<F: Fn(u16) -> Said>(item: u16, times: u8, told: &mut Told, ask: F)
+fn in_turn<F: Fn(u16) -> Result<bool, Refusal>>(item: u16, times: u8, told: &mut Told, ask: F)
     requires { F.IsAlwaysCallable ask }
 {
     for k in 0..times {
@@ -53,14 +51,13 @@ pub fn sweep(kept: &mut Kept, told: &mut Told, place: u16) -> Result<(), Stopped
 }
 
 pub fn judge(kept: &Kept, told: &mut Told) {
-    let judged = register::judge(kept.register.bytes());
-    match judged {
-        Judged::Accepted { items, links } => {
+    match register::judge(kept.register.bytes()) {
+        Ok(register) => {
             told.page.put(b"accepted");
-            told.page.field(items as u64);
-            told.page.field(links as u64);
+            told.page.field(register.items as u64);
+            told.page.field(register.links as u64);
         }
-        Judged::Refused(refusal) => tell_refused(&mut told.page, refusal),
+        Err(refusal) => tell_refused(&mut told.page, refusal),
     }
 }
 
@@ -74,7 +71,7 @@ pub fn condense(kept: &Kept, told: &mut Told) {
 }
 
 // "condensed at level and caps".
-fn condensed(kept: &Kept, out: &mut [u8]) -> Wrote {
+fn condensed(kept: &Kept, out: &mut [u8]) -> Result<usize, Refusal> {
     let Caps { level, mu, nu } = kept.caps;
     hestovane::condense(kept.register.bytes(), level, mu, nu, out)
 }
@@ -86,7 +83,7 @@ pub fn list(kept: &Kept, told: &mut Told) {
 }
 
 // "into a buffer of `room` bytes".
-fn answer<F: FnOnce(&mut [u8]) -> Wrote>(room: u16, told: &mut Told, call: F)
+fn answer<F: FnOnce(&mut [u8]) -> Result<usize, Refusal>>(room: u16, told: &mut Told, call: F)
     requires { F.IsAlwaysCallable call }
 {
     let mut out = [0u8; SIZE];
@@ -97,13 +94,13 @@ fn answer<F: FnOnce(&mut [u8]) -> Wrote>(room: u16, told: &mut Told, call: F)
     told.page.field(lent::hash(out));
 }
 
-fn tell_wrote(page: &mut Page, wrote: Wrote) {
+fn tell_wrote(page: &mut Page, wrote: Result<usize, Refusal>) {
     match wrote {
-        Wrote::Length(length) => {
+        Ok(length) => {
             page.put(b"wrote");
             page.field(length as u64);
         }
-        Wrote::Refused(refusal) => tell_refused(page, refusal),
+        Err(refusal) => tell_refused(page, refusal),
     }
 }
 
@@ -114,9 +111,6 @@ pub fn make(kept: &mut Kept) {
     kept.summary = File::new(out, length(wrote));
 }
 
-fn length(wrote: Wrote) -> u16 {
-    match wrote {
-        Wrote::Length(length) => length.min(65535) as u16,
-        Wrote::Refused(_) => 0,
-    }
+fn length(wrote: Result<usize, Refusal>) -> u16 {
+    wrote.map_or(0, |length| length.min(65535) as u16)
 }
