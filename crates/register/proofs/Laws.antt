@@ -1,6 +1,6 @@
 -- What an accepted register has, what its links' order and its header's counts come to where it is judged, and what the accessors read,
 -- over lists of bytes. Leans on promise's Access.
-use mathlib.Core.Path.{◌≡◌, refl, sym, ap, ◌∙◌}
+use mathlib.Core.Path.{◌≡◌, sym, ap, ◌∙◌}
 use mathlib.Core.List.{List}
 use Prim.Native.Nat.{ℕ, ◌+◌, ◌*◌, ◌≤◌, ◌<◌}
 use native.Mathlib.Omega.{arith}
@@ -11,7 +11,7 @@ use Rattle.meaning.specs.Bytes.{num2, num4}
 use Rattle.meaning.specs.RegisterFile.{links_offset, register_size, link_at, register_in, links_fine, fault}
 use Rattle.promise.proofs.Access.{items_at, marks_at, links_at, link_at_law, readable}
 use Rattle.links.specs.Order.{in_order}
-use Rattle.register.specs.Accepted.{OfItems, OfRegister, OfLink}
+use Rattle.register.specs.Accepted.{OfItems, OfRegister}
 
 -- ---- what an accepted register has
 
@@ -42,24 +42,12 @@ counts_are b n m fine e f = record { fine = fine; items_are = e ∙ sym (items_a
 
 -- ---- the accessors
 
--- a register that has a link k, with all its links
-pub link_has : (b : List ℕ) (n k : ℕ) → OfLink b n k → OfRegister b n (length (register_in b).links)
-link_has b n k o = record { fine = o.fine; items_are = o.items_are; links_are = refl }
-
 module _ (b : List ℕ) (n m k : ℕ) (o : OfRegister b n m) (h : k < m) where
   n_is : n ≡ num2 b 0
   n_is = o.items_are ∙ items_at b
 
   k_below : k < num2 b 2
   k_below = omega (arith, o.links_are, links_at b)
-
-  -- a field of a link lies within the file, whose counts are within their limits
-  pub link_within : (n ≤ 1024) × (k < 2048) × (links_offset n + 6 * k + 6 ≤ length b)
-  link_within =
-      let r = readable b o.fine in
-      let e = n_is in
-      let f = k_below in
-      (omega (arith, r.few), omega (arith, r.few_links), omega (arith, r.long))
 
   link_is : link_of (register_in b) k ≡ placed b n k
   link_is = link_at_law b k k_below ∙ ap (λ (m : ℕ). placed b m k) (sym n_is)

@@ -10,12 +10,6 @@ use Rattle.register.proofs.Register.marks.Symbol as Register-marks-symbol
 use Rattle.register.proofs.Register.near.Symbol as Register-near-symbol
 use Rattle.register.proofs.Register.source.Symbol as Register-source-symbol
 use Rattle.register.proofs.Register.target.Symbol as Register-target-symbol
-use Rattle.register.proofs.far.Symbol as far-symbol
-use Rattle.register.proofs.label.Symbol as label-symbol
-use Rattle.register.proofs.marks.Symbol as marks-symbol
-use Rattle.register.proofs.near.Symbol as near-symbol
-use Rattle.register.proofs.source.Symbol as source-symbol
-use Rattle.register.proofs.target.Symbol as target-symbol
 use Rattle.register.proofs.verdict.judge.Symbol as judge-symbol
 
 abbrev pub table : Tree
@@ -44,24 +38,6 @@ has-Register-source = TheLink.linked-register::Register::source
 
 pub has-Register-target : Found Register-target-symbol.code
 has-Register-target = TheLink.linked-register::Register::target
-
-pub has-far : Found far-symbol.code
-has-far = TheLink.linked-register::far
-
-pub has-label : Found label-symbol.code
-has-label = TheLink.linked-register::label
-
-pub has-marks : Found marks-symbol.code
-has-marks = TheLink.linked-register::marks
-
-pub has-near : Found near-symbol.code
-has-near = TheLink.linked-register::near
-
-pub has-source : Found source-symbol.code
-has-source = TheLink.linked-register::source
-
-pub has-target : Found target-symbol.code
-has-target = TheLink.linked-register::target
 
 pub has-judge : Found judge-symbol.code
 has-judge = TheLink.linked-register::verdict::judge

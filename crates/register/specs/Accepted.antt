@@ -1,5 +1,5 @@
 -- Bytes that are an accepted register, and the counts of its items and links. Leans on meaning's RegisterFile.
-use Rattle.std.specs.Prelude.{◌≡◌, List, ℕ, ◌<◌, length}
+use Rattle.std.specs.Prelude.{◌≡◌, List, ℕ, length}
 use Rattle.meaning.specs.Register.{items}
 use Rattle.meaning.specs.RegisterFile.{register_in, fault}
 
@@ -12,9 +12,3 @@ pub record OfRegister (b : List ℕ) (n m : ℕ) : Type 0 where
   pub fine : fault b ≡ 0
   pub items_are : n ≡ items (register_in b)
   pub links_are : m ≡ length (register_in b).links
-
--- b is an accepted register of n items that has a link k
-pub record OfLink (b : List ℕ) (n k : ℕ) : Type 0 where
-  pub fine : fault b ≡ 0
-  pub items_are : n ≡ items (register_in b)
-  pub link_is : k < length (register_in b).links

@@ -6,7 +6,7 @@ ghost use Rattle.std.specs.Prelude.{◌≡◌, ◌+◌, ◌*◌, ◌≤◌, ◌<
 ghost use Rattle.meaning.specs.Register.{items, marks_of, link_of, near as near_end, far as far_end};
 ghost use Rattle.meaning.specs.Bytes.{num2};
 ghost use Rattle.meaning.specs.RegisterFile.{links_offset, register_size, register_in, fault};
-ghost use Rattle.register.specs.Accepted.{OfLink, OfRegister};
+ghost use Rattle.register.specs.Accepted.{OfRegister};
 
 use meaning::Direction;
 use names::Item;
@@ -90,62 +90,5 @@ impl Register<'_> {
         ensures { result ≡ num2 self.now.bytes.now (links_offset self.now.items + 6 * k + 2 * f) }
     {
         wire::two(self.bytes, 12 + 4 * self.items + 6 * k + 2 * f)
-    }
-}
-
-// The same of bytes that a caller knows to be an accepted register of n items.
-pub fn marks(reg: &[u8], x: Item) -> u32
-    requires { (fault reg.now ≡ 0) × (x.0 < items (register_in reg.now)) }
-    ensures { result ≡ marks_of (register_in reg.now) x.0 }
-{
-    let i = x.0 as usize;
-    wire::four(reg, 12 + 4 * i)
-}
-
-fn field(reg: &[u8], n: usize, k: usize, f: usize) -> u16
-    requires { OfLink reg.now n k × (f < 3) }
-    ensures { result ≡ num2 reg.now (links_offset n + 6 * k + 2 * f) }
-{
-    wire::two(reg, 12 + 4 * n + 6 * k + 2 * f)
-}
-
-pub fn source(reg: &[u8], n: usize, k: usize) -> Item
-    requires { OfLink reg.now n k }
-    ensures { (result.0 ≡ (link_of (register_in reg.now) k).source) × (result.0 < n) }
-{
-    Item(field(reg, n, k, 0))
-}
-
-pub fn label(reg: &[u8], n: usize, k: usize) -> u8
-    requires { OfLink reg.now n k }
-    ensures { (result ≡ (link_of (register_in reg.now) k).label) × (result < 16) }
-{
-    field(reg, n, k, 1) as u8
-}
-
-pub fn target(reg: &[u8], n: usize, k: usize) -> Item
-    requires { OfLink reg.now n k }
-    ensures { (result.0 ≡ (link_of (register_in reg.now) k).target) × (result.0 < n) }
-{
-    Item(field(reg, n, k, 2))
-}
-
-pub fn near(reg: &[u8], n: usize, k: usize, way: Direction) -> Item
-    requires { OfLink reg.now n k }
-    ensures { (result.0 ≡ near_end way (link_of (register_in reg.now) k)) × (result.0 < n) }
-{
-    match way {
-        Direction::Outgoing => source(reg, n, k),
-        Direction::Incoming => target(reg, n, k),
-    }
-}
-
-pub fn far(reg: &[u8], n: usize, k: usize, way: Direction) -> Item
-    requires { OfLink reg.now n k }
-    ensures { (result.0 ≡ far_end way (link_of (register_in reg.now) k)) × (result.0 < n) }
-{
-    match way {
-        Direction::Outgoing => target(reg, n, k),
-        Direction::Incoming => source(reg, n, k),
     }
 }
