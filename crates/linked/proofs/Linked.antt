@@ -287,551 +287,128 @@ unfolding world
 there-hestovane = refl
 
 -- each function of another crate that a crate calls is found, and all that it calls
-below-order : order-link.Below world
-below-order = tt
-
-below-radix : radix-link.Below world
-below-radix =
-    (order-link.has-sort world there-order below-order, tt)
-
 below-wire : wire-link.Below world
 below-wire = tt
-
-below-links : links-link.Below world
-below-links =
-    (wire-link.has-two world there-wire below-wire, tt)
-
-below-register : register-link.Below world
-below-register = (
-  links-link.has-fine world there-links below-links,
-  (
-    wire-link.has-four world there-wire below-wire,
-    (wire-link.has-two world there-wire below-wire, tt),
-  ),
-)
-
-below-marked : marked-link.Below world
-below-marked =
-    (radix-link.has-sort world there-radix below-radix, (register-link.has-marks world there-register below-register, tt))
-
-below-signature : signature-link.Below world
-below-signature =
-    (marked-link.has-number_firsts world there-marked below-marked, (radix-link.has-sort world there-radix below-radix, tt))
-
-below-names : names-link.Below world
-below-names = tt
-
-below-capped : capped-link.Below world
-below-capped = tt
-
-below-rows : rows-link.Below world
-below-rows =
-    (capped-link.has-Capped-none world there-capped below-capped, (capped-link.has-Capped-one_more world there-capped below-capped, tt))
-
-below-surround : surround-link.Below world
-below-surround = (
-  names-link.has-Item-index world there-names below-names,
-  (
-    radix-link.has-sort world there-radix below-radix,
-    (
-      register-link.has-far world there-register below-register,
-      (
-        register-link.has-label world there-register below-register,
-        (register-link.has-near world there-register below-register, (rows-link.has-put_rows world there-rows below-rows, tt)),
-      ),
-    ),
-  ),
-)
-
-below-alike : alike-link.Below world
-below-alike = (
-  marked-link.has-by_marks world there-marked below-marked,
-  (
-    signature-link.has-number_by_signature world there-signature below-signature,
-    (surround-link.has-item_rows world there-surround below-surround, tt),
-  ),
-)
-
-below-classes : classes-link.Below world
-below-classes = (
-  capped-link.has-by_class world there-capped below-capped,
-  (
-    names-link.has-Class-as_group world there-names below-names,
-    (register-link.has-marks world there-register below-register, tt),
-  ),
-)
-
-below-edges : edges-link.Below world
-below-edges = (
-  names-link.has-Class-index world there-names below-names,
-  (
-    names-link.has-Item-index world there-names below-names,
-    (
-      radix-link.has-sort world there-radix below-radix,
-      (
-        register-link.has-label world there-register below-register,
-        (register-link.has-source world there-register below-register, (register-link.has-target world there-register below-register, tt)),
-      ),
-    ),
-  ),
-)
-
-below-filed : filed-link.Below world
-below-filed = tt
-
-below-summary : summary-link.Below world
-below-summary =
-    (wire-link.has-put_numbers world there-wire below-wire, tt)
-
-below-condense : condense-link.Below world
-below-condense = (
-  alike-link.has-levels world there-alike below-alike,
-  (
-    classes-link.has-records world there-classes below-classes,
-    (
-      edges-link.has-class_links world there-edges below-edges,
-      (
-        filed-link.has-row_numbers world there-filed below-filed,
-        (summary-link.has-file world there-summary below-summary, (summary-link.has-head world there-summary below-summary, tt)),
-      ),
-    ),
-  ),
-)
-
-below-entry : entry-link.Below world
-below-entry = tt
-
-below-memo : memo-link.Below world
-below-memo = tt
-
-below-question : question-link.Below world
-below-question =
-    (entry-link.has-read world there-entry below-entry, tt)
-
-below-reader : reader-link.Below world
-below-reader =
-    (wire-link.has-four world there-wire below-wire, (wire-link.has-two world there-wire below-wire, tt))
-
-below-seek : seek-link.Below world
-below-seek = tt
-
-below-window : window-link.Below world
-below-window = (
-  names-link.has-Group-index world there-names below-names,
-  (
-    reader-link.has-classes world there-reader below-reader,
-    (
-      reader-link.has-group world there-reader below-reader,
-      (
-        reader-link.has-rows world there-reader below-reader,
-        (seek-link.has-find world there-seek below-seek, tt),
-      ),
-    ),
-  ),
-)
-
-below-consult : consult-link.Below world
-below-consult = (
-  entry-link.has-read world there-entry below-entry,
-  (
-    entry-link.has-shows world there-entry below-entry,
-    (
-      memo-link.has-decides world there-memo below-memo,
-      (
-        memo-link.has-recalled world there-memo below-memo,
-        (
-          memo-link.has-remember world there-memo below-memo,
-          (
-            memo-link.has-slot_of world there-memo below-memo,
-            (
-              memo-link.has-turned world there-memo below-memo,
-              (
-                names-link.has-Class-index world there-names below-names,
-                (
-                  question-link.has-span world there-question below-question,
-                  (
-                    reader-link.has-marks world there-reader below-reader,
-                    (
-                      reader-link.has-row_count world there-reader below-reader,
-                      (
-                        reader-link.has-row_group world there-reader below-reader,
-                        (
-                          window-link.has-lowest_of world there-window below-window,
-                          (
-                            window-link.has-put_lowest world there-window below-window,
-                            (window-link.has-rows_of world there-window below-window, tt),
-                          ),
-                        ),
-                      ),
-                    ),
-                  ),
-                ),
-              ),
-            ),
-          ),
-        ),
-      ),
-    ),
-  ),
-)
-
-below-nearby : nearby-link.Below world
-below-nearby = (
-  names-link.has-Item-index world there-names below-names,
-  (
-    register-link.has-source world there-register below-register,
-    (register-link.has-target world there-register below-register, tt),
-  ),
-)
-
-below-descent : descent-link.Below world
-below-descent = (
-  entry-link.has-read world there-entry below-entry,
-  (
-    entry-link.has-shows world there-entry below-entry,
-    (
-      memo-link.has-decides world there-memo below-memo,
-      (
-        memo-link.has-recalled world there-memo below-memo,
-        (
-          memo-link.has-remember world there-memo below-memo,
-          (
-            memo-link.has-slot_of world there-memo below-memo,
-            (
-              nearby-link.has-before world there-nearby below-nearby,
-              (
-                nearby-link.has-last world there-nearby below-nearby,
-                (
-                  nearby-link.has-put_ins world there-nearby below-nearby,
-                  (
-                    nearby-link.has-put_outs world there-nearby below-nearby,
-                    (
-                      question-link.has-span world there-question below-question,
-                      (
-                        register-link.has-far world there-register below-register,
-                        (register-link.has-label world there-register below-register, (register-link.has-marks world there-register below-register, tt)),
-                      ),
-                    ),
-                  ),
-                ),
-              ),
-            ),
-          ),
-        ),
-      ),
-    ),
-  ),
-)
-
-below-table : table-link.Below world
-below-table = (
-  names-link.has-Item-index world there-names below-names,
-  (
-    register-link.has-far world there-register below-register,
-    (register-link.has-label world there-register below-register, (register-link.has-near world there-register below-register, tt)),
-  ),
-)
-
-below-inquiry : inquiry-link.Below world
-below-inquiry = (
-  descent-link.has-ask world there-descent below-descent,
-  (
-    entry-link.has-read world there-entry below-entry,
-    (
-      entry-link.has-shows world there-entry below-entry,
-      (
-        names-link.has-Item-index world there-names below-names,
-        (
-          question-link.has-span world there-question below-question,
-          (
-            register-link.has-marks world there-register below-register,
-            (
-              table-link.has-count world there-table below-table,
-              (
-                table-link.has-put_not world there-table below-table,
-                (
-                  table-link.has-put_pair world there-table below-table,
-                  (
-                    table-link.has-put_reached world there-table below-table,
-                    (table-link.has-put_true world there-table below-table, tt),
-                  ),
-                ),
-              ),
-            ),
-          ),
-        ),
-      ),
-    ),
-  ),
-)
-
-below-listed : listed-link.Below world
-below-listed = (
-  names-link.has-Class-index world there-names below-names,
-  (
-    reader-link.has-class_of world there-reader below-reader,
-    (reader-link.has-items world there-reader below-reader, (wire-link.has-put_numbers world there-wire below-wire, tt)),
-  ),
-)
-
-below-counted : counted-link.Below world
-below-counted = (
-  capped-link.has-by_class world there-capped below-capped,
-  (
-    reader-link.has-class_of world there-reader below-reader,
-    (
-      reader-link.has-classes world there-reader below-reader,
-      (
-        reader-link.has-count world there-reader below-reader,
-        (reader-link.has-marks world there-reader below-reader, (register-link.has-marks world there-register below-register, tt)),
-      ),
-    ),
-  ),
-)
-
-below-images : images-link.Below world
-below-images = (
-  reader-link.has-class_of world there-reader below-reader,
-  (
-    reader-link.has-link_label world there-reader below-reader,
-    (
-      reader-link.has-link_source world there-reader below-reader,
-      (
-        reader-link.has-link_target world there-reader below-reader,
-        (
-          reader-link.has-links world there-reader below-reader,
-          (
-            register-link.has-label world there-register below-register,
-            (
-              register-link.has-source world there-register below-register,
-              (
-                register-link.has-target world there-register below-register,
-                (seek-link.has-same_members world there-seek below-seek, tt),
-              ),
-            ),
-          ),
-        ),
-      ),
-    ),
-  ),
-)
-
-below-rowwise : rowwise-link.Below world
-below-rowwise = (
-  reader-link.has-class_of world there-reader below-reader,
-  (
-    reader-link.has-group world there-reader below-reader,
-    (
-      reader-link.has-row_count world there-reader below-reader,
-      (
-        reader-link.has-row_group world there-reader below-reader,
-        (
-          reader-link.has-row_way world there-reader below-reader,
-          (
-            reader-link.has-rows world there-reader below-reader,
-            (seek-link.has-find world there-seek below-seek, (surround-link.has-item_rows world there-surround below-surround, tt)),
-          ),
-        ),
-      ),
-    ),
-  ),
-)
-
-below-proposal : proposal-link.Below world
-below-proposal = (
-  counted-link.has-counts_equal world there-counted below-counted,
-  (
-    counted-link.has-marks_equal world there-counted below-counted,
-    (
-      images-link.has-links_are_images world there-images below-images,
-      (
-        reader-link.has-class_cap world there-reader below-reader,
-        (
-          reader-link.has-items world there-reader below-reader,
-          (
-            reader-link.has-near_cap world there-reader below-reader,
-            (rowwise-link.has-rows_equal world there-rowwise below-rowwise, tt),
-          ),
-        ),
-      ),
-    ),
-  ),
-)
 
 below-range : range-link.Below world
 below-range = tt
 
-below-reach : reach-link.Below world
-below-reach =
-    (reader-link.has-level world there-reader below-reader, (reader-link.has-near_cap world there-reader below-reader, tt))
+below-capped : capped-link.Below world
+below-capped = tt
+
+below-names : names-link.Below world
+below-names = tt
+
+below-links : links-link.Below world
+below-links = (wire-link.has-two world there-wire below-wire, tt)
+
+below-register : register-link.Below world
+below-register = (links-link.has-fine world there-links below-links, (names-link.has-Item-index world there-names below-names, (wire-link.has-four world there-wire below-wire, (wire-link.has-two world there-wire below-wire, tt))))
+
+below-nearby : nearby-link.Below world
+below-nearby = (names-link.has-Item-index world there-names below-names, (register-link.has-Register-source world there-register below-register, (register-link.has-Register-target world there-register below-register, tt)))
+
+below-entry : entry-link.Below world
+below-entry = tt
+
+below-question : question-link.Below world
+below-question = (entry-link.has-read world there-entry below-entry, tt)
+
+below-memo : memo-link.Below world
+below-memo = tt
+
+below-table : table-link.Below world
+below-table = (names-link.has-Item-index world there-names below-names, (register-link.has-Register-far world there-register below-register, (register-link.has-Register-label world there-register below-register, (register-link.has-Register-near world there-register below-register, tt))))
+
+below-descent : descent-link.Below world
+below-descent = (entry-link.has-read world there-entry below-entry, (entry-link.has-shows world there-entry below-entry, (memo-link.has-decides world there-memo below-memo, (memo-link.has-recalled world there-memo below-memo, (memo-link.has-remember world there-memo below-memo, (memo-link.has-slot_of world there-memo below-memo, (nearby-link.has-Links-before world there-nearby below-nearby, (nearby-link.has-Links-last world there-nearby below-nearby, (nearby-link.has-put_ins world there-nearby below-nearby, (nearby-link.has-put_outs world there-nearby below-nearby, (question-link.has-span world there-question below-question, (register-link.has-Register-far world there-register below-register, (register-link.has-Register-label world there-register below-register, (register-link.has-Register-marks world there-register below-register, tt))))))))))))))
+
+below-inquiry : inquiry-link.Below world
+below-inquiry = (descent-link.has-ask world there-descent below-descent, (entry-link.has-read world there-entry below-entry, (entry-link.has-shows world there-entry below-entry, (names-link.has-Item-index world there-names below-names, (question-link.has-span world there-question below-question, (register-link.has-Register-marks world there-register below-register, (table-link.has-count world there-table below-table, (table-link.has-put_not world there-table below-table, (table-link.has-put_pair world there-table below-table, (table-link.has-put_reached world there-table below-table, (table-link.has-put_true world there-table below-table, tt)))))))))))
+
+below-order : order-link.Below world
+below-order = tt
+
+below-radix : radix-link.Below world
+below-radix = (order-link.has-sort world there-order below-order, tt)
+
+below-rows : rows-link.Below world
+below-rows = (capped-link.has-Capped-none world there-capped below-capped, (capped-link.has-Capped-one_more world there-capped below-capped, tt))
+
+below-marked : marked-link.Below world
+below-marked = (radix-link.has-sort world there-radix below-radix, (register-link.has-Register-marks world there-register below-register, tt))
+
+below-signature : signature-link.Below world
+below-signature = (marked-link.has-number_firsts world there-marked below-marked, (radix-link.has-sort world there-radix below-radix, tt))
+
+below-surround : surround-link.Below world
+below-surround = (names-link.has-Item-index world there-names below-names, (radix-link.has-sort world there-radix below-radix, (register-link.has-Register-far world there-register below-register, (register-link.has-Register-label world there-register below-register, (register-link.has-Register-near world there-register below-register, (rows-link.has-put_rows world there-rows below-rows, tt))))))
+
+below-alike : alike-link.Below world
+below-alike = (marked-link.has-by_marks world there-marked below-marked, (signature-link.has-Signatures-number world there-signature below-signature, (surround-link.has-put_item_rows world there-surround below-surround, tt)))
 
 below-said : said-link.Below world
 below-said = tt
 
-below-fields : fields-link.Below world
-below-fields = (
-  range-link.has-within world there-range below-range,
-  (
-    reader-link.has-class_cap world there-reader below-reader,
-    (
-      reader-link.has-classes world there-reader below-reader,
-      (
-        reader-link.has-count world there-reader below-reader,
-        (
-          reader-link.has-group world there-reader below-reader,
-          (
-            reader-link.has-groups world there-reader below-reader,
-            (reader-link.has-items world there-reader below-reader, (wire-link.has-two world there-wire below-wire, tt)),
-          ),
-        ),
-      ),
-    ),
-  ),
-)
+below-summary : summary-link.Below world
+below-summary = (wire-link.has-put_numbers world there-wire below-wire, tt)
+
+below-classes : classes-link.Below world
+below-classes = (capped-link.has-by_class world there-capped below-capped, (names-link.has-Class-as_group world there-names below-names, (names-link.has-Class-index world there-names below-names, (register-link.has-Register-marks world there-register below-register, tt))))
+
+below-filed : filed-link.Below world
+below-filed = tt
+
+below-edges : edges-link.Below world
+below-edges = (names-link.has-Class-index world there-names below-names, (names-link.has-Item-index world there-names below-names, (radix-link.has-sort world there-radix below-radix, (register-link.has-Register-label world there-register below-register, (register-link.has-Register-source world there-register below-register, (register-link.has-Register-target world there-register below-register, tt))))))
+
+below-condense : condense-link.Below world
+below-condense = (alike-link.has-levels world there-alike below-alike, (classes-link.has-records world there-classes below-classes, (edges-link.has-class_links world there-edges below-edges, (filed-link.has-row_numbers world there-filed below-filed, (summary-link.has-file world there-summary below-summary, tt)))))
+
+below-seek : seek-link.Below world
+below-seek = tt
+
+below-reader : reader-link.Below world
+below-reader = (names-link.has-Class-index world there-names below-names, (names-link.has-Item-index world there-names below-names, (wire-link.has-four world there-wire below-wire, (wire-link.has-two world there-wire below-wire, tt))))
 
 below-header : header-link.Below world
-below-header = (
-  reader-link.has-classes world there-reader below-reader,
-  (
-    reader-link.has-items world there-reader below-reader,
-    (
-      reader-link.has-links world there-reader below-reader,
-      (
-        reader-link.has-rows world there-reader below-reader,
-        (wire-link.has-two world there-wire below-wire, tt),
-      ),
-    ),
-  ),
-)
+below-header = (reader-link.has-Summary-classes world there-reader below-reader, (reader-link.has-Summary-items world there-reader below-reader, (reader-link.has-Summary-links world there-reader below-reader, (reader-link.has-Summary-rows world there-reader below-reader, (wire-link.has-two world there-wire below-wire, tt)))))
+
+below-fields : fields-link.Below world
+below-fields = (range-link.has-within world there-range below-range, (reader-link.has-Summary-class_cap world there-reader below-reader, (reader-link.has-Summary-classes world there-reader below-reader, (reader-link.has-Summary-count world there-reader below-reader, (reader-link.has-Summary-group world there-reader below-reader, (reader-link.has-Summary-groups world there-reader below-reader, (reader-link.has-Summary-items world there-reader below-reader, (reader-link.has-Summary-near_cap world there-reader below-reader, (wire-link.has-two world there-wire below-wire, tt)))))))))
 
 below-matching : matching-link.Below world
-below-matching = (
-  reader-link.has-group world there-reader below-reader,
-  (
-    reader-link.has-link_label world there-reader below-reader,
-    (
-      reader-link.has-link_source world there-reader below-reader,
-      (
-        reader-link.has-link_target world there-reader below-reader,
-        (
-          reader-link.has-links world there-reader below-reader,
-          (
-            reader-link.has-rows world there-reader below-reader,
-            (seek-link.has-same_members world there-seek below-seek, tt),
-          ),
-        ),
-      ),
-    ),
-  ),
-)
+below-matching = (reader-link.has-Summary-group world there-reader below-reader, (reader-link.has-Summary-link_label world there-reader below-reader, (reader-link.has-Summary-link_source world there-reader below-reader, (reader-link.has-Summary-link_target world there-reader below-reader, (reader-link.has-Summary-links world there-reader below-reader, (reader-link.has-Summary-rows world there-reader below-reader, (seek-link.has-same_members world there-seek below-seek, tt)))))))
 
 below-wellformed : wellformed-link.Below world
-below-wellformed = (
-  fields-link.has-class_fine world there-fields below-fields,
-  (
-    fields-link.has-map_fine world there-fields below-fields,
-    (
-      fields-link.has-row_fine world there-fields below-fields,
-      (
-        fields-link.has-row_key world there-fields below-fields,
-        (
-          header-link.has-exact world there-header below-header,
-          (
-            header-link.has-few world there-header below-header,
-            (
-              links-link.has-fine world there-links below-links,
-              (
-                matching-link.has-rows_match world there-matching below-matching,
-                (
-                  names-link.has-Group-index world there-names below-names,
-                  (
-                    range-link.has-in_range world there-range below-range,
-                    (
-                      reader-link.has-class_cap world there-reader below-reader,
-                      (
-                        reader-link.has-classes world there-reader below-reader,
-                        (
-                          reader-link.has-group world there-reader below-reader,
-                          (
-                            reader-link.has-groups world there-reader below-reader,
-                            (
-                              reader-link.has-level world there-reader below-reader,
-                              (
-                                reader-link.has-links world there-reader below-reader,
-                                (
-                                  reader-link.has-near_cap world there-reader below-reader,
-                                  (
-                                    reader-link.has-rows world there-reader below-reader,
-                                    (seek-link.has-all_marked world there-seek below-seek, (wire-link.has-two world there-wire below-wire, tt)),
-                                  ),
-                                ),
-                              ),
-                            ),
-                          ),
-                        ),
-                      ),
-                    ),
-                  ),
-                ),
-              ),
-            ),
-          ),
-        ),
-      ),
-    ),
-  ),
-)
+below-wellformed = (fields-link.has-Rows-fine world there-fields below-fields, (fields-link.has-Rows-key world there-fields below-fields, (fields-link.has-Rows-of world there-fields below-fields, (fields-link.has-class_fine world there-fields below-fields, (fields-link.has-map_fine world there-fields below-fields, (header-link.has-few world there-header below-header, (header-link.has-read world there-header below-header, (links-link.has-fine world there-links below-links, (matching-link.has-Ordered-rows_match world there-matching below-matching, (names-link.has-Group-index world there-names below-names, (range-link.has-in_range world there-range below-range, (reader-link.has-Summary-class_cap world there-reader below-reader, (reader-link.has-Summary-classes world there-reader below-reader, (reader-link.has-Summary-group world there-reader below-reader, (reader-link.has-Summary-groups world there-reader below-reader, (reader-link.has-Summary-level world there-reader below-reader, (reader-link.has-Summary-links world there-reader below-reader, (reader-link.has-Summary-near_cap world there-reader below-reader, (reader-link.has-Summary-rows world there-reader below-reader, (seek-link.has-all_marked world there-seek below-seek, (wire-link.has-two world there-wire below-wire, tt)))))))))))))))))))))
+
+below-counted : counted-link.Below world
+below-counted = (capped-link.has-by_class world there-capped below-capped, (reader-link.has-Summary-class_of world there-reader below-reader, (reader-link.has-Summary-classes world there-reader below-reader, (reader-link.has-Summary-count world there-reader below-reader, (reader-link.has-Summary-marks world there-reader below-reader, (register-link.has-Register-marks world there-register below-register, tt))))))
+
+below-images : images-link.Below world
+below-images = (reader-link.has-Summary-class_of world there-reader below-reader, (reader-link.has-Summary-link_label world there-reader below-reader, (reader-link.has-Summary-link_source world there-reader below-reader, (reader-link.has-Summary-link_target world there-reader below-reader, (reader-link.has-Summary-links world there-reader below-reader, (register-link.has-Register-label world there-register below-register, (register-link.has-Register-source world there-register below-register, (register-link.has-Register-target world there-register below-register, (seek-link.has-same_members world there-seek below-seek, tt)))))))))
+
+below-rowwise : rowwise-link.Below world
+below-rowwise = (reader-link.has-Summary-class_of world there-reader below-reader, (reader-link.has-Summary-group world there-reader below-reader, (reader-link.has-Summary-row_count world there-reader below-reader, (reader-link.has-Summary-row_group world there-reader below-reader, (reader-link.has-Summary-row_way world there-reader below-reader, (seek-link.has-find world there-seek below-seek, (surround-link.has-put_item_rows world there-surround below-surround, tt)))))))
+
+below-proposal : proposal-link.Below world
+below-proposal = (counted-link.has-counts_equal world there-counted below-counted, (counted-link.has-marks_equal world there-counted below-counted, (images-link.has-links_are_images world there-images below-images, (reader-link.has-Summary-class_cap world there-reader below-reader, (reader-link.has-Summary-items world there-reader below-reader, (reader-link.has-Summary-near_cap world there-reader below-reader, (rowwise-link.has-rows_equal world there-rowwise below-rowwise, tt)))))))
+
+below-window : window-link.Below world
+below-window = (names-link.has-Group-index world there-names below-names, (reader-link.has-Summary-classes world there-reader below-reader, (reader-link.has-Summary-group world there-reader below-reader, (seek-link.has-find world there-seek below-seek, tt))))
+
+below-consult : consult-link.Below world
+below-consult = (entry-link.has-read world there-entry below-entry, (entry-link.has-shows world there-entry below-entry, (memo-link.has-decides world there-memo below-memo, (memo-link.has-recalled world there-memo below-memo, (memo-link.has-remember world there-memo below-memo, (memo-link.has-slot_of world there-memo below-memo, (question-link.has-span world there-question below-question, (reader-link.has-Summary-marks world there-reader below-reader, (reader-link.has-Summary-row_count world there-reader below-reader, (reader-link.has-Summary-row_group world there-reader below-reader, (window-link.has-lowest_of world there-window below-window, (window-link.has-put_lowest world there-window below-window, (window-link.has-rows_of world there-window below-window, tt)))))))))))))
+
+below-reach : reach-link.Below world
+below-reach = (reader-link.has-Summary-level world there-reader below-reader, (reader-link.has-Summary-near_cap world there-reader below-reader, tt))
+
+below-listed : listed-link.Below world
+below-listed = (names-link.has-Class-index world there-names below-names, (reader-link.has-Summary-class_of world there-reader below-reader, (reader-link.has-Summary-items world there-reader below-reader, (wire-link.has-put_numbers world there-wire below-wire, tt))))
 
 below-hestovane : hestovane-link.Below world
-below-hestovane = (
-  condense-link.has-condense world there-condense below-condense,
-  (
-    consult-link.has-ask world there-consult below-consult,
-    (
-      consult-link.has-put_answers world there-consult below-consult,
-      (
-        inquiry-link.has-ask world there-inquiry below-inquiry,
-        (
-          listed-link.has-put_items world there-listed below-listed,
-          (
-            listed-link.has-put_list world there-listed below-listed,
-            (
-              proposal-link.has-check world there-proposal below-proposal,
-              (
-                question-link.has-judge world there-question below-question,
-                (
-                  range-link.has-in_range world there-range below-range,
-                  (
-                    reach-link.has-beyond world there-reach below-reach,
-                    (
-                      reader-link.has-class_of world there-reader below-reader,
-                      (
-                        reader-link.has-classes world there-reader below-reader,
-                        (
-                          reader-link.has-items world there-reader below-reader,
-                          (
-                            register-link.has-judge world there-register below-register,
-                            (
-                              said-link.has-coded world there-said below-said,
-                              (
-                                said-link.has-measured world there-said below-said,
-                                (said-link.has-spoken world there-said below-said, (wellformed-link.has-judge world there-wellformed below-wellformed, tt)),
-                              ),
-                            ),
-                          ),
-                        ),
-                      ),
-                    ),
-                  ),
-                ),
-              ),
-            ),
-          ),
-        ),
-      ),
-    ),
-  ),
-)
+below-hestovane = (condense-link.has-condense world there-condense below-condense, (consult-link.has-ask world there-consult below-consult, (consult-link.has-put_answers world there-consult below-consult, (inquiry-link.has-ask world there-inquiry below-inquiry, (listed-link.has-put_items world there-listed below-listed, (listed-link.has-put_list world there-listed below-listed, (proposal-link.has-check world there-proposal below-proposal, (question-link.has-judge world there-question below-question, (range-link.has-in_range world there-range below-range, (reach-link.has-beyond world there-reach below-reach, (reader-link.has-Summary-class_of world there-reader below-reader, (reader-link.has-Summary-classes world there-reader below-reader, (reader-link.has-Summary-items world there-reader below-reader, (register-link.has-judge world there-register below-register, (said-link.has-coded world there-said below-said, (said-link.has-measured world there-said below-said, (wellformed-link.has-judge world there-wellformed below-wellformed, tt)))))))))))))))))
 
 pub hestovane_condense_linked : Wired linked condense-symbol.code
 unfolding look
