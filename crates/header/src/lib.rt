@@ -33,7 +33,7 @@ pub fn read(s: &[u8]) -> Option<Summary<'_>>
 
 // "there are 24 bytes or more; offsets and length are exact".
 #[tactic(auto, unfolding(meaning::specs::SummaryFile::exact))]
-fn exact(s: &[u8]) -> bool
+pub fn exact(s: &[u8]) -> bool
     ensures { result ≡ file.exact s.now }
 {
     if s.len() < 24 {

@@ -12,7 +12,7 @@ ghost use Rattle.said.specs.Written.{Short};
 use meaning::Refusal;
 
 // Minus the refusal's number.
-fn minus(refusal: Refusal) -> i32
+pub fn minus(refusal: Refusal) -> i32
     ensures { result ≡ code (number (number_of refusal)) }
 {
     -(refusal as i32)
