@@ -6,7 +6,7 @@ use mathlib.Core.List.{List}
 use mathlib.Core.Option.{some}
 use Prim.Native.Nat.{ℕ, ◌+◌, ◌-◌, ◌≤◌, ◌<◌}
 use native.Mathlib.Omega.{arith}
-use borrow.Author.Tests.{le-leb, lt-leb, eq-eqb, ne_eqb}
+use borrow.Author.Tests.{le-leb, lt-leb, eq-eqb}
 use lib.Dec.{eqb}
 use lib.ListN.{length}
 use Rattle.std.proofs.Common.{Result, Ok, Err}
@@ -91,10 +91,6 @@ cond_most false = omega arith
 
 -- its label and the neighbour to which it leads are read
 module _ (q : List ℕ) (i : ℕ) (R : Register) (d : Direction) (l k a y : ℕ) (Label-is : a ≡ (link_of R k).label) (far-is : y ≡ far d (link_of R k)) where
-  pub leads_other : (a ≡ l → ⊥) → Says q i (leading R d l k) false
-  leads_other f t j p =
-      sym (ap (λ (b : Bool). b && holds R t (far d (link_of R k))) (ne_eqb (link_of R k).label l (λ e. f (Label-is ∙ e))))
-
   pub leads_there : a ≡ l → (b : Bool) → Says q i (λ t. holds R t y) b → Says q i (leading R d l k) b
   leads_there e b says t j p =
       says t j p

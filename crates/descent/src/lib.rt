@@ -1,5 +1,6 @@
 // A question asked at one item of a register, from the item downwards: an operand is asked only where the answer hangs on it, and once an
 // item. Leans on entry and question for what is asked, on nearby for an item's links and on memo for what was said before.
+// What was not said is passed on by `match`: `?` has code in std that the crate linked could not name.
 #![tactic(auto)]
 
 ghost use Rattle.std.specs.Prelude.{◌≡◌, ◌+◌, ◌≤◌, ◌<◌, cond, length, get_or};
@@ -189,7 +190,7 @@ fn holds(asked: &Asked, at: usize, memory: &mut Memory, x: Item) -> Result<bool,
 }
 
 // "at least t .. neighbours .. satisfy the operand", which stands at entry `at`: the item's links from the last to the first, up to the t-th
-// that leads to such a neighbour.
+// that leads to such a neighbour. The loop is `while`: each place is found from the one before.
 #[cycle(holds_leads_reaches)]
 fn reaches(
     asked: &Asked,

@@ -1,5 +1,5 @@
 -- The rows of a summary's classes, and the numbers that are copied out of the words of an item's rows: "Row, eight bytes: class,
--- direction times 16 plus label (out 0, in 1), group, neighbour count capped at µ." Leans on alike's words of rows.
+-- direction times 16 plus label (out 0, in 1), group, neighbour count capped at µ." Leans on rows' words.
 use Rattle.std.specs.Prelude.{ℕ, ◌+◌, ◌/◌, ◌%◌, ◌≤◌, ◌<◌, Bool, List, [], ◌∷◌, length, get_or}
 use Rattle.meaning.specs.Count.{join}
 use Rattle.meaning.specs.Register.{Register}

@@ -1,5 +1,5 @@
 // The rows of a summary's classes as numbers, in file order. A class's rows are those of its lowest item; the level step left the rows of
-// all items as words, and here they are taken apart with the class in front. Leans on alike for the words and on summary for the numbers.
+// all items as words, and here they are taken apart with the class in front. Leans on rows for the words and on summary for the numbers.
 #![tactic(auto)]
 
 ghost use Rattle.std.specs.Prelude.{◌≡◌, List, ℕ, ◌+◌, ◌*◌, ◌<◌, ◌≤◌, length, take};

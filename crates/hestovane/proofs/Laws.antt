@@ -24,7 +24,6 @@ use Rattle.meaning.specs.declared.Refusal.TheVariants.{Range}
 use Rattle.theory.proofs.WellMade.{level_least}
 use Rattle.said.specs.Written.{Gives}
 use Rattle.promise.proofs.Promise.{summary_most, in_range_law}
-use Rattle.promise.proofs.Access.{items_at, links_at, accepted_so}
 use Rattle.question.specs.Read as read
 use Rattle.question.proofs.Laws.{verdict_accepted, verdict_refused}
 use Rattle.register.specs.Told.{OfRegister}
@@ -32,11 +31,6 @@ use Rattle.inquiry.specs.Known.{Whole, asked}
 use Rattle.said.specs.Written.{Short}
 
 -- ---- the register
-
-pub of_register : (b : List ℕ) (n m : ℕ) → accepted n m ≡ verdict b → OfRegister b n m
-of_register b n m e =
-    let s = accepted_so b n m e in
-    record { fine = s.0; items_are = s.1 ∙ sym (items_at b); links_are = s.2 ∙ sym (links_at b) }
 
 -- a refused register is refused with its number, whatever else is asked
 refused_first : (b : List ℕ) (k : ℕ) (a : Answer) → refused k ≡ verdict b → number k ≡ returned (unless (fault b) a)

@@ -30,7 +30,7 @@ use Rattle.listed.proofs.Laws.{at_most, mapped}
 use Rattle.question.specs.Read as read
 use Rattle.question.specs.declared.Needs.{Needs}
 use Rattle.question.proofs.Laws.{verdict_accepted, verdict_refused, parsed_question}
-use Rattle.hestovane.specs.Readied.{Reached}
+use Rattle.hestovane.specs.Reached.{Reached}
 use Rattle.said.specs.Told.{told}
 use Rattle.said.specs.Written.{Short}
 use Rattle.question.specs.Read.{Treeless}
@@ -104,9 +104,6 @@ pub list_named : (s : List ℕ) (t : Question) (answers : List Bool) → well_fo
 unfolding Summary.list
 list_named s t answers w e = those_same _ _ (length (summary_in s).map) (λ x h. e (class_at (summary_in s) x) (mapped s x w h))
 
-pub few_named : (s : List ℕ) (p : ℕ → Bool) (r : ℕ) → well_formed_file s ≡ true → r ≡ length (those p (length (summary_in s).map)) → r ≤ 1024
-few_named s p r w e = omega (arith, at_most p (length (summary_in s).map), (sized_file s w).few_items)
-
 -- so a list is short enough for C
 list_few : (S : Summary) (t : Question) → length (Summary.list S t) ≤ length S.map
 unfolding Summary.list
@@ -135,7 +132,7 @@ list_short s q room = go (well_formed_file s) refl (question q)
 pub at_class : (S : Summary) (t : Question) (k c : ℕ) → k ≡ c → holds_at S t k ≡ holds_at S t c
 at_class S t k c e = ap (holds_at S t) e
 
--- the summary and the question, judged
+-- the question judged, and within reach
 pub reached : (s q : List ℕ) (n : Needs) (b : Bool) → read.accepted n.depth n.threshold ≡ read.verdict q →
     b ≡ (ltb (summary_in s).level n.depth || ltb ((summary_in s).near_cap + 1) n.threshold) → b ≡ false → Reached s q n
 reached s q n b e f g =

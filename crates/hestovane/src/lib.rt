@@ -1,6 +1,6 @@
 // The public calls. Each takes any input, judges it for itself and refuses with document 01's numbers in document 01's order; its
 // contract is an equation with the call's one definition in meaning's Answers. The last five, which hestovane_c exports to C, give the
-// same as one number.
+// same as one number. A refusal is passed on by `match`: `?` has code in std that the crate linked could not name.
 #![tactic(auto)]
 
 ghost use Rattle.std.specs.Prelude.{◌≡◌, length};
@@ -9,7 +9,7 @@ ghost use Rattle.meaning.specs.SummaryFile.{summary_in};
 ghost use Rattle.meaning.specs.Answers.{returned, code, left, ask_tree};
 ghost use Rattle.meaning.specs.Answers as answers;
 ghost use Rattle.inquiry.specs.Known.{Whole};
-ghost use Rattle.hestovane.specs.Readied.{Reached};
+ghost use Rattle.hestovane.specs.Reached.{Reached};
 ghost use Rattle.said.specs.Told.{told};
 ghost use Rattle.said.specs.Written.{Gives};
 

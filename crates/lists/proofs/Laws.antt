@@ -7,10 +7,10 @@ use Prim.Native.Nat.{ℕ, zero, suc, ◌+◌, ◌*◌, ◌≤◌, ◌<◌}
 use native.Mathlib.Omega.{arith}
 use borrow.Author.Tests.{eqb-true, eq-eqb, ne_eqb}
 use lib.Dec.{eqb}
-use lib.ListN.{length, get_or, take, set, length-set}
-use lib.Seq.{take-suc, take_at, get_or-set_same, get_or-set_other, ext_get_or}
+use lib.ListN.{length, get_or, take}
+use lib.Seq.{take-suc, ext_get_or}
 use Rattle.meaning.specs.Count.{tab, all, any, each}
-use Rattle.theory.proofs.CountLaws.{by_eq, bool_iff, length_tab, get_d_tab, tab_same, all_at, all_yes, any_at, each_every, each_yes, every_at, every_get_d}
+use Rattle.theory.proofs.CountLaws.{bool_iff, length_tab, get_d_tab, tab_same, all_at, all_yes, any_at, each_every, each_yes, every_at, every_get_d}
 use Rattle.theory.proofs.ShapeLaws.{any_place}
 use Rattle.lists.specs.Writes.{Writes}
 
@@ -32,10 +32,6 @@ tab_more f m zero = let z : m + 0 ≡ m = omega arith in rw z (sym (mathlib.Core
 tab_more f m (suc n) =
     let z : m + suc n ≡ suc (m + n) = omega arith in
     rw z (ap (λ (l : List _). l ++ (f (m + n) ∷ [])) (tab_more f m n) ∙ mathlib.Core.List.append_assoc (tab f m) (tab (λ i. f (m + i)) n) (f (m + n) ∷ []))
-
--- the e numbers at the front, where e is n
-pub tab_front : (f : ℕ → ℕ) (n e : ℕ) (t rest : List ℕ) → e ≡ n → t ≡ tab f e ++ rest → take e t ≡ tab f n
-tab_front f n e t rest u v = ap (take e) v ∙ take_at (tab f e) rest e (length_tab f e) ∙ ap (tab f) u
 
 -- ---- tests of a list, place by place; numbers in a list that is made place by place
 
@@ -62,20 +58,6 @@ of_tab f n v e =
     (r.0, h, sym (get_d_tab f 0 n r.0 h) ∙ sym (eqb-true v (get_or (tab f n) r.0 0) r.2))
 
 -- ---- writing
-
-module _ (t : List ℕ) (from : ℕ) (f : ℕ → ℕ) where
-  pub writes_none : Writes t t from 0 f
-  writes_none = record { says = λ k h. absurd (omega arith); kept = λ i h. refl; long = refl }
-
-  pub writes_next : (u : List ℕ) (k v : ℕ) → from + k < length u → v ≡ f k → Writes t u from k f → Writes t (set u (from + k) v) from (k + 1) f
-  writes_next u k v h e w = record {
-    says = λ j g.
-        by_eq j k
-        (λ q. rw q (get_or-set_same u (from + k) v 0 h ∙ e))
-        (λ q. get_or-set_other u (from + k) (from + j) v 0 (λ z. q (omega arith)) ∙ w.says j (omega arith));
-    kept = λ i g. get_or-set_other u (from + k) i v 0 (λ z. omega arith) ∙ w.kept i g;
-    long = simp length-set w.long;
-  }
 
 -- two stretches, one behind the other
 pub two_written : (t u v : List ℕ) (m : ℕ) (f g : ℕ → ℕ) → m + m ≤ length t → Writes t u 0 m f → Writes u v m m g → take (2 * m) v ≡ tab f m ++ tab g m

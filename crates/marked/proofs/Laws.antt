@@ -26,9 +26,6 @@ pub record Run (s : List ℕ) (r p : ℕ) : Type 0 where
   pub less : (q : ℕ) → q < r → get_or s q 0 / 1024 < get_or s r 0 / 1024
   pub same : (q : ℕ) → r ≤ q → q < p → get_or s q 0 / 1024 ≡ get_or s r 0 / 1024
 
-pub run_none : (s : List ℕ) → Run s 0 0
-run_none s = record { start = omega arith; less = λ q h. absurd (omega arith); same = λ q h g. absurd (omega arith) }
-
 -- one place more, where a new run starts or not
 pub run_next : (s : List ℕ) (n r p t : ℕ) → Run s r p → p < n → ((q : ℕ) → q ≤ p → get_or s q 0 ≤ get_or s p 0)
     → ((get_or s p 0 / 1024 ≡ get_or s r 0 / 1024 → ⊥) × (t ≡ p)) ⊎ ((get_or s p 0 / 1024 ≡ get_or s r 0 / 1024) × (t ≡ r))

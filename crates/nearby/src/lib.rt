@@ -100,7 +100,8 @@ impl Links<'_> {
     }
 }
 
-// "strictly ascending": links stand by source, so the first link of a later source is found by halves.
+// "strictly ascending": links stand by source, so the first link of a later source is found by halves. The
+// loop is `while`: its range is halved, and std's search by halves takes a slice, which a register's links are not.
 fn past(reg: &Register, x: Item) -> usize
     ensures { Parts (register_in reg.now.bytes.now) x.0 result result × (result ≤ reg.now.links) }
 {

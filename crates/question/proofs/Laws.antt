@@ -10,7 +10,7 @@ use lib.IntN.{ℤ}
 use lib.Dec.{eqb, leb}
 use lib.ListN.{length, get_or, length-append}
 use borrow.Author.Tests.{le-leb, lt-leb, leb-true, leb-false}
-use Rattle.std.proofs.Common.{Result, Ok, Err}
+use Rattle.std.proofs.Common.{Result, Ok}
 use Rattle.meaning.specs.Question.{Question, always, literal, negation, both, either, at_least, depth, threshold}
 use Rattle.meaning.specs.Reading.{entries_of}
 use Rattle.meaning.specs.declared.Direction.{Direction}
@@ -330,6 +330,3 @@ verdict_refused q k e = refuses (question q) k e
 
 pub said_one : {A : Type 0} (r : Result A Refusal) (s t : A) → r ≡ Ok s → r ≡ Ok t → s ≡ t
 said_one r s t e f = cc
-
-pub not_refused : {A : Type 0} (r : Result A Refusal) (s : A) (k : Refusal) → r ≡ Ok s → r ≡ Err k → ⊥
-not_refused r s k e f = cc

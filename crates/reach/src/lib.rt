@@ -8,6 +8,7 @@ ghost use Rattle.meaning.specs.SummaryFile.{summary_in};
 use question::Needs;
 use reader::Summary;
 
+// The question's depth and its greatest threshold, on any of its entries.
 pub fn beyond(s: &Summary, needs: Needs) -> bool
     ensures { result ≡ ltb (summary_in s.now.bytes.now).level needs.depth
         || ltb ((summary_in s.now.bytes.now).near_cap + 1) needs.threshold }

@@ -1,5 +1,4 @@
--- What an accessor of a summary file may be asked: a file "of 24 bytes or more; offsets and length are exact", which has such a class,
--- row, class link or item. Leans on meaning's SummaryFile.
+-- The class link of a summary at a place among its class links. Leans on meaning's Summary.
 use Rattle.std.specs.Prelude.{ℕ, get_or}
 use Rattle.meaning.specs.Register.{Link, no_link}
 use Rattle.meaning.specs.Summary.{Summary}

@@ -3,9 +3,9 @@
 #![tactic(auto)]
 
 ghost use Rattle.std.specs.Prelude.{◌≡◌, ◌+◌, ◌*◌, ◌≤◌, ◌<◌, length};
-ghost use Rattle.meaning.specs.Register.{items, marks_of, link_of, near as near_end, far as far_end};
+ghost use Rattle.meaning.specs.Register.{marks_of, link_of, near as near_end, far as far_end};
 ghost use Rattle.meaning.specs.Bytes.{num2};
-ghost use Rattle.meaning.specs.RegisterFile.{links_offset, register_size, register_in, fault};
+ghost use Rattle.meaning.specs.RegisterFile.{links_offset, register_size, register_in};
 ghost use Rattle.register.specs.Accepted.{OfRegister};
 
 use meaning::Direction;

@@ -31,11 +31,12 @@ pub fn judge(reg: &[u8]) -> Result<Register<'_>, Refusal>
     if !links::fine(reg, 12 + 4 * n, m, n) {
         return Err(Refusal::Link);
     }
-    Ok(Register {
+    let register = Register {
         bytes: reg,
         items: n,
         links: m,
-    })
+    };
+    Ok(register)
 }
 
 // Not "n > 1,024 or m > 2,048".

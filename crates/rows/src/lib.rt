@@ -51,7 +51,7 @@ fn run_from(s: &[u64], p: usize, mu: u8) -> Run
     }
 }
 
-// The rows of n items with these keys, as Rows has them; how many they are.
+// The rows of n items with these keys, as Rows has them; how many they are. The loop is `while`: an item is left where its keys end.
 pub fn put_rows(s: &[u64], n: usize, mu: u8, rows: &mut [u64], starts: &mut [u16]) -> usize
     requires small { (length s.now < 65536) × (n < 65536) × (mu < 15) }
     requires room { (length s.now ≤ length rows.old) × (n < length starts.old) }

@@ -22,7 +22,8 @@ impl<'a> Ascending<'a> {
         self.halve(0, self.keys.len(), key)
     }
 
-    // The same, by halves, where the keys before one place are less than the key and none from another on is.
+    // The same, by halves, where the keys before one place are less than the key and none from another on is. The loop is `while`: std's
+    // search by halves has code that the crate linked could not name.
     fn halve(&self, from: usize, to: usize, key: u64) -> usize
         requires { (from ≤ to) × (to ≤ length self.now.keys.now) × Parted self.now.keys.now key from to }
         ensures { Stands self.now.keys.now key result }
@@ -54,7 +55,7 @@ impl<'a> Ascending<'a> {
     }
 
     // Where each class's keys start, and where the last class's end: `starts` is laid up to the number that comes back, one more than the
-    // last key's class. Two places move, the class's and the key's, one of them at a time.
+    // last key's class. The loop is `while`: two places move, the class's and the key's, one of them at a time.
     fn lay_starts(&self, starts: &mut [u16]) -> usize
         requires { (length self.now.keys.now ≤ 4096) × (length starts.old ≡ 1025) }
         ensures { Laid starts.new self.now.keys.now result }

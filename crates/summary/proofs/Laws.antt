@@ -9,7 +9,7 @@ use Rattle.meaning.specs.Summary.{Class, Row, Summary}
 use Rattle.meaning.specs.Register.{Link}
 use Rattle.meaning.specs.Bytes.{put2, put4, pack}
 use Rattle.meaning.specs.RegisterFile.{put_link}
-use Rattle.meaning.specs.SummaryFile.{put_class, put_row, summary_head, summary_bytes}
+use Rattle.meaning.specs.SummaryFile.{put_class, put_row, summary_head, summary_bytes, summary_size}
 pub use Rattle.wire.proofs.Sets.{pack_append, size_numbers}
 use Rattle.wire.proofs.Sets.{then}
 use Rattle.summary.specs.Numbers.{class_fields, row_fields, edge_fields, class_numbers, row_numbers, edge_numbers, head_of, summary_numbers, numbers}
@@ -41,25 +41,63 @@ unfolding pack
 size_records f w size [] = omega arith
 size_records f w size (a ∷ s) = omega (arith, length-append (f a) (pack f s), size a, size_records f w size s)
 
-head_bytes : (S : Summary) (c r e : ℕ) → c ≡ length S.classes → r ≡ length S.rows → e ≡ length S.links →
-    pack put2 (head_of S.level S.near_cap S.class_cap c S.groups r e (length S.map)) ≡ summary_head S
+head_bytes : (S : Summary) → pack put2 (head_of S.level S.near_cap S.class_cap (length S.classes) S.groups (length S.rows) (length S.links) (length S.map)) ≡ summary_head S
 unfolding pack head_of summary_head put2
-head_bytes S c r e f g h = rw (f, g, h)
+head_bytes S = refl
 
-pub numbers_bytes : (S : Summary) → pack put2 (summary_numbers S) ≡ summary_bytes S
-unfolding summary_numbers numbers summary_bytes class_numbers row_numbers edge_numbers
-numbers_bytes S =
-    let c = size_records class_numbers class_fields (λ a. refl) S.classes in
-    let r = size_records row_numbers row_fields (λ a. refl) S.rows in
-    let e = size_records edge_numbers edge_fields (λ a. refl) S.links in
-    pack_append put2 _ _
-    ∙ ap₂ (λ (x y : List ℕ). x ++ y) (head_bytes S _ _ _ (omega (arith, c)) (omega (arith, r)) (omega (arith, e)))
+-- five parts that hold the numbers of a summary are its bytes, and so long is the file
+pub parts_bytes : (S : Summary) (head classes rows edges map : List ℕ) →
+    head ≡ head_of S.level S.near_cap S.class_cap (length S.classes) S.groups (length S.rows) (length S.links) (length S.map) →
+    classes ≡ pack class_numbers S.classes → rows ≡ pack row_numbers S.rows → edges ≡ pack edge_numbers S.links → map ≡ S.map →
+    pack put2 (head ++ (classes ++ (rows ++ (edges ++ map)))) ≡ summary_bytes S
+unfolding summary_bytes
+parts_bytes S head classes rows edges map h k o l m =
+    rw (h, k, o, l, m) (pack_append put2 (head_of S.level S.near_cap S.class_cap (length S.classes) S.groups (length S.rows) (length S.links) (length S.map)) _
+    ∙ ap₂ (λ (x y : List ℕ). x ++ y) (head_bytes S)
     (pack_append put2 (pack class_numbers S.classes) _
     ∙ ap₂ (λ (x y : List ℕ). x ++ y) (pack_pack class_numbers put_class class_bytes S.classes)
     (pack_append put2 (pack row_numbers S.rows) _
     ∙ ap₂ (λ (x y : List ℕ). x ++ y) (pack_pack row_numbers put_row row_bytes S.rows)
     (pack_append put2 (pack edge_numbers S.links) S.map
-    ∙ ap₂ (λ (x y : List ℕ). x ++ y) (pack_pack edge_numbers put_link edge_bytes S.links) (sym (append-nil (pack put2 S.map))))))
+    ∙ ap₂ (λ (x y : List ℕ). x ++ y) (pack_pack edge_numbers put_link edge_bytes S.links) (sym (append-nil (pack put2 S.map)))))))
+
+classes_long : (S : Summary) → length (pack class_numbers S.classes) ≡ class_fields * length S.classes
+unfolding class_numbers
+classes_long S = size_records class_numbers class_fields (λ a. refl) S.classes
+
+rows_long : (S : Summary) → length (pack row_numbers S.rows) ≡ row_fields * length S.rows
+unfolding row_numbers
+rows_long S = size_records row_numbers row_fields (λ a. refl) S.rows
+
+edges_long : (S : Summary) → length (pack edge_numbers S.links) ≡ edge_fields * length S.links
+unfolding edge_numbers
+edges_long S = size_records edge_numbers edge_fields (λ a. refl) S.links
+
+pub numbers_bytes : (S : Summary) → pack put2 (summary_numbers S) ≡ summary_bytes S
+unfolding summary_numbers numbers class_numbers row_numbers edge_numbers
+numbers_bytes S =
+    let c : length (pack class_numbers S.classes) / class_fields ≡ length S.classes = omega (arith, classes_long S) in
+    let r : length (pack row_numbers S.rows) / row_fields ≡ length S.rows = omega (arith, rows_long S) in
+    let e : length (pack edge_numbers S.links) / edge_fields ≡ length S.links = omega (arith, edges_long S) in
+    parts_bytes S _ _ _ _ _ (rw (c, r, e) refl) refl refl refl refl
+
+pub bytes_long : (S : Summary) → length (summary_bytes S) ≡ summary_size (length S.classes) (length S.rows) (length S.links) (length S.map)
+unfolding summary_numbers numbers head_of
+bytes_long S =
+    let C = pack class_numbers S.classes in
+    let O = pack row_numbers S.rows in
+    let E = pack edge_numbers S.links in
+    ap length (sym (numbers_bytes S))
+    ∙ omega (
+      arith,
+      size_numbers (summary_numbers S),
+      length-append C (O ++ (E ++ S.map)),
+      length-append O (E ++ S.map),
+      length-append E S.map,
+      classes_long S,
+      rows_long S,
+      edges_long S,
+    )
 
 -- ---- five parts, one behind the other
 

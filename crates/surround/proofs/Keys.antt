@@ -7,8 +7,7 @@ use Prim.Native.Nat.{ℕ, ◌+◌, ◌*◌, ◌≤◌, ◌<◌}
 use native.Mathlib.Omega.{arith}
 use borrow.Author.Tests.{eq-eqb, ne_eqb, eqb-true}
 use lib.Dec.{eqb}
-use lib.ListN.{length, get_or, take}
-use lib.Seq.{get_or-take, length-take-le}
+use lib.ListN.{length, get_or}
 use Rattle.meaning.specs.Count.{tally}
 use Rattle.meaning.specs.Register.{Link, no_link, link_of, LinkFine, Fine, same_way, near, far, leads, neighbours}
 use Rattle.meaning.specs.declared.Direction.{Direction}
@@ -45,13 +44,6 @@ unfolding key_of
 key_made d cs a x w i o e f g h = rw (e, f, g, h)
 
 -- ---- the class list that the code reads
-
-pub classes_cut : (cs : List ℕ) (n : ℕ) → OfClasses cs n → OfClasses (take n cs) n
-classes_cut cs n c =
-    let e : length (take n cs) ≡ n = length-take-le n cs c.long in record {
-      long = omega arith;
-      small = λ x h. rw (get_or-take n cs x 0 h) (c.small x h);
-    }
 
 module _ (cs : List ℕ) (n : ℕ) (c : OfClasses cs n) (long : length cs ≡ n) where
   pub list_few : class_count cs ≤ 1024

@@ -2,13 +2,12 @@
 // one a direction; the keys are sorted, and equal ones counted. Leans on register for the links, on radix and rows.
 #![tactic(auto)]
 
-ghost use Rattle.std.specs.Prelude.{◌≡◌, ◌++◌, ◌+◌, ◌*◌, ◌<◌, ◌≤◌, length, drop, take};
+ghost use Rattle.std.specs.Prelude.{◌≡◌, ◌++◌, ◌+◌, ◌*◌, ◌<◌, ◌≤◌, length, drop};
 ghost use Rattle.meaning.specs.Count.{tab, join};
 ghost use Rattle.meaning.specs.Register.{link_of};
 ghost use Rattle.meaning.specs.WellFormed.{way as way_number};
 ghost use Rattle.meaning.specs.RegisterFile.{register_in};
 ghost use Rattle.order.specs.Sorted.{sorted};
-ghost use Rattle.register.specs.Told.{OfRegister};
 ghost use Rattle.surround.specs.Surroundings.{OfClasses, key_of, all_keys, item_rows as item_rows_word, item_start};
 
 use meaning::Direction;

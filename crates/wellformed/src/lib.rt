@@ -4,7 +4,7 @@
 
 ghost use Rattle.std.specs.Prelude.{◌≡◌, true, false, ◌&&◌, length, MatchResult};
 ghost use Rattle.meaning.specs.Count.{each, ascends};
-ghost use Rattle.meaning.specs.WellFormed.{in_range, class_in, row_in, link_in, link_key, row_key, sizes, groups_used, well_formed};
+ghost use Rattle.meaning.specs.WellFormed.{in_range, class_in, row_in, link_in, link_key, row_key, groups_used, well_formed};
 ghost use Rattle.meaning.specs.SummaryFile.{summary_in, well_formed_file};
 ghost use Rattle.header.specs.Keyed.{Keyed};
 ghost use Rattle.header.specs.Limits.{Sized};

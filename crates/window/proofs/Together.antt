@@ -1,15 +1,14 @@
 -- "the class's rows in that direction and label" stand together: from the first whose key is not below the least that such a row may have,
 -- to the first whose key is above all of them. Leans on seek for what a search finds, and on matching's laws of keys.
-use mathlib.Core.Path.{◌≡◌, refl, sym, ap, ◌∙◌}
+use mathlib.Core.Path.{◌≡◌, sym, ap, ◌∙◌}
 use mathlib.Core.Bool.{Bool, true, false, cond, ◌&&◌}
 use mathlib.Core.List.{List}
 use Prim.Native.Nat.{ℕ, ◌+◌, ◌-◌, ◌*◌, ◌≤◌, ◌<◌}
 use native.Mathlib.Omega.{arith}
 use borrow.Author.Tests.{eqb-true, eq-eqb, ltb-true, ltb-false}
 use lib.Dec.{eqb, ltb}
-use lib.ListN.{length, get_or, take}
-use lib.Seq.{length-take-le}
-use Rattle.meaning.specs.Count.{sum, ascends}
+use lib.ListN.{length, get_or}
+use Rattle.meaning.specs.Count.{sum}
 use Rattle.meaning.specs.Register.{same_way}
 use Rattle.meaning.specs.declared.Direction.{Direction}
 use Rattle.meaning.specs.Summary.{Row, Summary, no_row, row_of, row_for, counted}
@@ -17,10 +16,10 @@ use Rattle.meaning.specs.WellFormed.{way, row_key, well_formed}
 use Rattle.meaning.specs.SummaryFile.{summary_in, well_formed_file}
 use Rattle.theory.proofs.CountLaws.{by_bool, and_inv, and_yes, get_d_tab, length_tab, sum_same, sum_window, total_places}
 use Rattle.theory.proofs.ShapeLaws.{well_parts, same_direction, own_direction}
-use Rattle.theory.proofs.OneLaws.{order_parts, way_tells, way_small}
+use Rattle.theory.proofs.OneLaws.{way_tells, way_small}
 use Rattle.seek.specs.Keys.{Stands}
 use Rattle.header.specs.Keyed.{row_keys}
-use Rattle.header.proofs.File.{well_file, sized_file, groups_file}
+use Rattle.header.proofs.File.{well_file, groups_file}
 use Rattle.matching.proofs.Match.{row_at}
 use Rattle.window.specs.Own.{Own}
 

@@ -1,5 +1,5 @@
 -- After j steps, which the counter counts, upper has the list of level j, and lower that of the level before (`Going`).
-use Rattle.alike.proofs.ByLevel.{going_next, ended, of_level}
+use Rattle.alike.proofs.ByLevel.{going_next, going_on, of_level}
 use native.Mathlib.Omega.{arith}
 use mathlib.Core.Path.{◌∙◌}
 use Rattle.meaning.specs.RegisterFile.{register_in}
@@ -36,4 +36,4 @@ returns-then-same_classes c =
     let g =
     going_next R c.args.mu reg.items o.items_are fine l.counter
     l.lower l.upper l.groups l.classes l.rows.starts l.rows.words l.invariant _ _ _ _ _ c.copy_classes.ensures r.0 r.1 r.2 in
-    ended R c.args.mu reg.items o.items_are fine l.counter c.args.i _ _ _ _ _ _ c.loop-test.true (c.same_classes.ensures c.if-same_classes.true) g
+    going_on R c.args.mu reg.items o.items_are fine l.counter c.args.i _ _ _ _ _ _ c.loop-test.true (c.same_classes.ensures c.if-same_classes.true) g

@@ -26,9 +26,9 @@ unfolding verdict verdict_by fault
 returns-then-not-fine-clause-says c =
     grind (arith, common_steps, c.fine.ensures ∙ links_in_order _ _ _ c.two-n.ensures c.two-m.ensures)
 
-pub invariant_of-result : goal.invariant_of-result
+pub invariant_of-register : goal.invariant_of-register
 unfolding fault
-invariant_of-result c =
+invariant_of-register c =
     let in_order = c.fine.ensures ∙ links_in_order _ _ _ c.two-n.ensures c.two-m.ensures in
     let o = counts_are _ _ _ (grind (arith, common_steps, in_order)) c.two-n.ensures c.two-m.ensures in
     let most = limits _ _ _ o in
