@@ -71,9 +71,9 @@
 //! the environment variable `HESTOVANE_LIB_DIR`. An archive that answers as no call does is not
 //! this library, and the crate panics rather than hand its answer on.
 //!
-//! A call takes up to 176 KiB of stack, and not much less for a small register: 176 KiB for
-//! [`check`] and [`Summary::read`], 145 for [`condense`], 130 for [`ask_summary`] and [`list`], 105
-//! for [`ask_register`], as measured.
+//! A call takes up to 177 KiB of stack, its thread's start included, and not much less for a small
+//! register: 177 KiB for [`check`] and [`Summary::read`], 152 for [`condense`], 134 for
+//! [`ask_summary`] and [`list`], 91 for [`ask_register`], as measured.
 //! Threads have 2 MiB unless told otherwise; lend one that calls in here 256 KiB or more. With too
 //! little the process ends with a stack overflow, as it does in Rust's own code. The calls keep
 //! nothing between them, so any number of threads may call at once.
