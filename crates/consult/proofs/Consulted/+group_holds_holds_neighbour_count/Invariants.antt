@@ -1,5 +1,5 @@
--- `holds` and `neighbour_count` call each other, by way of `group_holds`: entries left, then rows left, fall. The first is the cycle's
--- measure, the second the loop's.
+-- `holds` and `neighbour_count` call each other, by way of `group_holds`: entries left fall, the cycle's measure; the rows left fall in
+-- the loop, a `for`.
 use Rattle.std.proofs.Common.{◌+◌, ◌-◌, ◌*◌, ◌/◌, ◌≤◌, length}
 use Rattle.meaning.specs.SummaryFile.{summary_in}
 use Rattle.consult.specs.Consulted.{Remembers}
