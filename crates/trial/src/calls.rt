@@ -2,7 +2,7 @@
 use meaning::Refusal;
 use page::Page;
 use trial_cases::command::Caps;
-use trial_cases::file::{File, SIZE};
+use trial_cases::file::SIZE;
 use trial_cases::kept::Kept;
 use trial_cases::told::Told;
 use trial_cases::{Stopped, lent};
@@ -67,13 +67,15 @@ fn tell_refused(page: &mut Page, refusal: Refusal) {
 }
 
 pub fn condense(kept: &Kept, told: &mut Told) {
-    answer(kept.room, told, |out| condensed(kept, out));
+    answer(kept.room, told, |out| {
+        condensed(kept.register.bytes(), kept.caps, out)
+    });
 }
 
 // "condensed at level and caps".
-fn condensed(kept: &Kept, out: &mut [u8]) -> Result<usize, Refusal> {
-    let Caps { level, mu, nu } = kept.caps;
-    hestovane::condense(kept.register.bytes(), level, mu, nu, out)
+fn condensed(register: &[u8], caps: Caps, out: &mut [u8]) -> Result<usize, Refusal> {
+    let Caps { level, mu, nu } = caps;
+    hestovane::condense(register, level, mu, nu, out)
 }
 
 pub fn list(kept: &Kept, told: &mut Told) {
@@ -106,9 +108,8 @@ fn tell_wrote(page: &mut Page, wrote: Result<usize, Refusal>) {
 
 // "the summary becomes what condensing the register at level and caps writes, and empty where that is refused".
 pub fn make(kept: &mut Kept) {
-    let mut out = [0u8; SIZE];
-    let wrote = condensed(kept, &mut out);
-    kept.summary = File::new(out, length(wrote));
+    let wrote = condensed(kept.register.bytes(), kept.caps, kept.summary.room());
+    kept.summary.cut(length(wrote));
 }
 
 fn length(wrote: Result<usize, Refusal>) -> u16 {

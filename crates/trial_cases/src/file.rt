@@ -12,16 +12,24 @@ pub struct File {
 
 impl File {
     pub fn empty() -> File {
-        File::new([0; SIZE], 0)
-    }
-
-    // The first so many of the bytes.
-    pub fn new(bytes: [u8; SIZE], len: u16) -> File {
-        File { bytes, len }
+        File {
+            bytes: [0; SIZE],
+            len: 0,
+        }
     }
 
     pub fn bytes(&self) -> &[u8] {
         &self.bytes[..self.len as usize]
+    }
+
+    // Room for all the bytes that a file may have; how many of them are the file's is told by `cut`.
+    pub fn room(&mut self) -> &mut [u8] {
+        &mut self.bytes
+    }
+
+    // The file is the first so many bytes of its room.
+    pub fn cut(&mut self, len: u16) {
+        self.len = len;
     }
 
     // "the byte at the place becomes this".

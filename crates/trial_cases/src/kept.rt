@@ -3,10 +3,11 @@ use crate::command::{Caps, Which};
 use crate::file::File;
 use std::mem;
 
+// The registers are borrowed, so that an exchange moves no byte of theirs.
 #[derive(Drop)]
-pub struct Kept {
-    pub register: File,
-    pub other: File,
+pub struct Kept<'a> {
+    pub register: &'a mut File,
+    pub other: &'a mut File,
     pub summary: File,
     pub question: File,
     pub item: u16,
@@ -14,11 +15,11 @@ pub struct Kept {
     pub room: u16,
 }
 
-impl Kept {
-    pub fn new() -> Kept {
+impl<'a> Kept<'a> {
+    pub fn new(register: &'a mut File, other: &'a mut File) -> Kept<'a> {
         Kept {
-            register: File::empty(),
-            other: File::empty(),
+            register,
+            other,
             summary: File::empty(),
             question: File::empty(),
             item: 0,
@@ -33,7 +34,7 @@ impl Kept {
 
     pub fn file(&mut self, which: Which) -> &mut File {
         match which {
-            Which::Register => &mut self.register,
+            Which::Register => self.register,
             Which::Summary => &mut self.summary,
             Which::Question => &mut self.question,
         }
