@@ -6,8 +6,9 @@ use mathlib.Core.List.{List}
 use Prim.Native.Nat.{ℕ, ◌+◌, ◌*◌, ◌/◌, ◌%◌, ◌≤◌, ◌<◌}
 use native.Mathlib.Omega.{arith}
 use native.Mathlib.Numerals.{add-one}
-use borrow.Author.Tests.{lt-ltb, le-ltb, le-leb, lt-leb, ltb-true}
+use borrow.Author.Tests.{lt-ltb, le-ltb, le-leb, lt-leb, ltb-true, ltb-false}
 use lib.Dec.{leb, ltb}
+use Rattle.std.specs.Prelude.{min}
 use Rattle.meaning.specs.Count.{all, tab}
 use Rattle.meaning.specs.Register.{Link}
 use Rattle.meaning.specs.WellFormed.{link_in, link_key}
@@ -66,13 +67,27 @@ and_out true t u e = e
 and_out false t u e = refl
 
 module _ (n rest : ℕ) where
-  pub no_label : 16 ≤ rest / 65536 → false ≡ rest_in n rest
+  no_label : 16 ≤ rest / 65536 → false ≡ rest_in n rest
   unfolding rest_in
   no_label h = sym (rw (le-ltb (rest / 65536) 16 h))
 
-  pub only_target : rest / 65536 < 16 → ltb (rest % 65536) n ≡ rest_in n rest
+  only_target : rest / 65536 < 16 → ltb (rest % 65536) n ≡ rest_in n rest
   unfolding rest_in
   only_target h = sym (rw (lt-ltb (rest / 65536) 16 h))
+
+  -- with n or what no target reaches: what a label above 15 leaves is above it
+  pub one_test : (bound : ℕ) → bound ≡ min n 65536 → ltb (rest % 65536 + rest / 1048576 * 1048576) bound ≡ rest_in n rest
+  one_test bound e =
+      let whole = rest % 65536 + rest / 1048576 * 1048576 in
+      by_bool (ltb (rest / 65536) 16)
+      (λ t.
+      let l = ltb-true (rest / 65536) 16 t in
+      by_bool (ltb (rest % 65536) n)
+      (λ u. lt-ltb whole bound (omega (arith, l, e, ltb-true (rest % 65536) n u)) ∙ sym u ∙ only_target l)
+      (λ u. le-ltb whole bound (omega (arith, l, e, ltb-false (rest % 65536) n u)) ∙ sym u ∙ only_target l))
+      (λ t.
+      let l = ltb-false (rest / 65536) 16 t in
+      le-ltb whole bound (omega (arith, l, e)) ∙ no_label l)
 
 module _ (n : ℕ) (a : Link) where
   no_source : n ≤ a.source → link_in n a ≡ false

@@ -2,13 +2,13 @@
 // where they stand. The same records are a register's links and a summary's class links. Leans on wire for the bytes.
 #![tactic(auto)]
 
-ghost use Rattle.std.specs.Prelude.{◌≡◌, ◌+◌, ◌*◌, ◌/◌, ◌%◌, ◌≤◌, ◌<◌, length};
+ghost use Rattle.std.specs.Prelude.{◌≡◌, ◌+◌, ◌*◌, ◌/◌, ◌%◌, ◌≤◌, ◌<◌, min, length};
 ghost use Rattle.meaning.specs.Count.{tab};
 ghost use Rattle.meaning.specs.RegisterFile.{link_at};
 ghost use Rattle.links.specs.Order.{in_order, rest_in};
 
-// "labels 0 to 15".
-const LABELS: u32 = 16;
+// "labels 0 to 15": label and target as one number are below this.
+const RESTS: u32 = 1048576;
 
 // Whether each of the m links from a place on has its ends below n and its label below 16, and each comes after the one before. Links
 // that ascend have the greatest source last, so that this one alone is compared with n. Label and target, as one number, are judged
@@ -54,12 +54,16 @@ fn rest_at(b: &[u8], at: usize) -> u32
     label as u32 * 65536 + target as u32
 }
 
-// Not "its label > 15", nor its target ≥ n.
+// Not "its label > 15", nor its target ≥ n. One comparison says both: a label above 15 leaves a number above every target.
 fn rest_fine(rest: u32, n: usize) -> bool
     ensures { result ≡ rest_in n rest }
 {
-    if LABELS <= rest / 65536 {
-        return false;
-    }
-    ((rest % 65536) as usize) < n
+    rest % 65536 + rest / RESTS * RESTS < bound(n)
+}
+
+// What a target has to be below: n, or, where that is more, what two bytes hold.
+fn bound(n: usize) -> u32
+    ensures { result ≡ min n 65536 }
+{
+    if n < 65536 { n as u32 } else { 65536 }
 }
