@@ -10,7 +10,7 @@ pub mod bytes;
 const SIZE: usize = 65536;
 
 // It goes out when it is full and at the end, so that many lines take one system call. Its first `written` bytes are still to go.
-#[derive(Drop)]
+#[derive(Clone, Copy)]
 pub struct Page {
     bytes: [u8; SIZE],
     written: usize,

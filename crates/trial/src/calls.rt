@@ -17,12 +17,12 @@ fn letter(said: Result<bool, Refusal>) -> u8 {
 }
 
 pub fn check(kept: &Kept, told: &mut Told) {
-    told.hear(letter(hestovane::check(kept.register.bytes(), kept.summary.bytes())));
+    told.hear(letter(hestovane::check(kept.register().bytes(), kept.summary.bytes())));
 }
 
 pub fn ask_register(kept: &Kept, told: &mut Told, times: u8) {
     in_turn(kept.item, times, told, |item| {
-        hestovane::ask_register(kept.register.bytes(), kept.question.bytes(), item)
+        hestovane::ask_register(kept.register().bytes(), kept.question.bytes(), item)
     });
 }
 
@@ -51,7 +51,7 @@ pub fn sweep(kept: &mut Kept, told: &mut Told, place: u16) -> Result<(), Stopped
 }
 
 pub fn judge(kept: &Kept, told: &mut Told) {
-    match register::judge(kept.register.bytes()) {
+    match register::judge(kept.register().bytes()) {
         Ok(register) => {
             told.page.put(b"accepted");
             told.page.field(register.items as u64);
@@ -67,15 +67,13 @@ fn tell_refused(page: &mut Page, refusal: Refusal) {
 }
 
 pub fn condense(kept: &Kept, told: &mut Told) {
-    answer(kept.room, told, |out| {
-        condensed(kept.register.bytes(), kept.caps, out)
-    });
+    answer(kept.room, told, |out| condensed(kept, out));
 }
 
 // "condensed at level and caps".
-fn condensed(register: &[u8], caps: Caps, out: &mut [u8]) -> Result<usize, Refusal> {
-    let Caps { level, mu, nu } = caps;
-    hestovane::condense(register, level, mu, nu, out)
+fn condensed(kept: &Kept, out: &mut [u8]) -> Result<usize, Refusal> {
+    let Caps { level, mu, nu } = kept.caps;
+    hestovane::condense(kept.register().bytes(), level, mu, nu, out)
 }
 
 pub fn list(kept: &Kept, told: &mut Told) {
@@ -108,8 +106,9 @@ fn tell_wrote(page: &mut Page, wrote: Result<usize, Refusal>) {
 
 // "the summary becomes what condensing the register at level and caps writes, and empty where that is refused".
 pub fn make(kept: &mut Kept) {
-    let wrote = condensed(kept.register.bytes(), kept.caps, kept.summary.room());
-    kept.summary.cut(length(wrote));
+    let mut out = [0u8; SIZE];
+    let wrote = condensed(kept, &mut out);
+    kept.summary.hold(&out, length(wrote));
 }
 
 fn length(wrote: Result<usize, Refusal>) -> u16 {

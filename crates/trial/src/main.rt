@@ -6,7 +6,6 @@ mod calls;
 
 use trial_cases::Stopped;
 use trial_cases::command::Command;
-use trial_cases::file::File;
 use trial_cases::input::Input;
 use trial_cases::kept::Kept;
 use trial_cases::told::Told;
@@ -16,9 +15,7 @@ const MOST: u64 = 1099511627776;
 
 fn main() {
     let mut input = Input::new();
-    let mut register = File::empty();
-    let mut other = File::empty();
-    let mut kept = Kept::new(&mut register, &mut other);
+    let mut kept = Kept::new();
     let mut told = Told::new();
     if run(&mut input, &mut kept, &mut told).is_err() {
         // "ends the trial at that command with the line `stopped`, right behind what was printed so far".

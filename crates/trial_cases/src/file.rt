@@ -4,7 +4,7 @@ use crate::command::{Change, Come};
 
 pub const SIZE: usize = 65536;
 
-#[derive(Drop)]
+#[derive(Clone, Copy)]
 pub struct File {
     bytes: [u8; SIZE],
     len: u16,
@@ -22,13 +22,9 @@ impl File {
         &self.bytes[..self.len as usize]
     }
 
-    // Room for all the bytes that a file may have; how many of them are the file's is told by `cut`.
-    pub fn room(&mut self) -> &mut [u8] {
-        &mut self.bytes
-    }
-
-    // The file is the first so many bytes of its room.
-    pub fn cut(&mut self, len: u16) {
+    // The file becomes the first so many of the bytes.
+    pub fn hold(&mut self, bytes: &[u8; SIZE], len: u16) {
+        put_bytes(&mut self.bytes, &bytes[..usize::from(len)]);
         self.len = len;
     }
 

@@ -1,13 +1,12 @@
 // What is kept between commands.
 use crate::command::{Caps, Which};
 use crate::file::File;
-use std::mem;
 
-// The registers are borrowed, so that an exchange moves no byte of theirs.
-#[derive(Drop)]
-pub struct Kept<'a> {
-    pub register: &'a mut File,
-    pub other: &'a mut File,
+#[derive(Clone, Copy)]
+pub struct Kept {
+    registers: [File; 2],
+    // The second is the register, and the first the other: so that an exchange moves no byte of theirs.
+    exchanged: bool,
     pub summary: File,
     pub question: File,
     pub item: u16,
@@ -15,11 +14,11 @@ pub struct Kept<'a> {
     pub room: u16,
 }
 
-impl<'a> Kept<'a> {
-    pub fn new(register: &'a mut File, other: &'a mut File) -> Kept<'a> {
+impl Kept {
+    pub fn new() -> Kept {
         Kept {
-            register,
-            other,
+            registers: [File::empty(); 2],
+            exchanged: false,
             summary: File::empty(),
             question: File::empty(),
             item: 0,
@@ -32,15 +31,19 @@ impl<'a> Kept<'a> {
         }
     }
 
+    pub fn register(&self) -> &File {
+        &self.registers[self.exchanged as usize]
+    }
+
     pub fn file(&mut self, which: Which) -> &mut File {
         match which {
-            Which::Register => self.register,
+            Which::Register => &mut self.registers[self.exchanged as usize],
             Which::Summary => &mut self.summary,
             Which::Question => &mut self.question,
         }
     }
 
     pub fn exchange(&mut self) {
-        mem::swap(&mut self.register, &mut self.other);
+        self.exchanged = !self.exchanged;
     }
 }

@@ -2,7 +2,7 @@
 use crate::lent;
 use page::Page;
 
-#[derive(Drop)]
+#[derive(Clone, Copy)]
 pub struct Told {
     pub page: Page,
     tally: Option<Tally>,
