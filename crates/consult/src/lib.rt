@@ -50,7 +50,7 @@ pub fn put_answers(
     ensures { Answers q.now (summary_in s.now.summary.bytes.now) first.0 result answers.new }
 {
     let mut lowest = [0u16; 1024];
-    window::put_lowest(s, &mut lowest);
+    window::put_lowest(&s.summary, &mut lowest);
     let consulted = Consulted {
         question: q,
         read: *s,
@@ -108,7 +108,7 @@ impl Consulted<'_> {
                 let Ok(first) = self.holds(at + 1, known, class) else {
                     return Err(Refusal::Question);
                 };
-                if memo::decides(kind, first) {
+                if memo::decides(kind, Ok(first)) {
                     return Ok(first);
                 }
                 let Ok(operand) = question::span(self.question, at + 1) else {

@@ -9,9 +9,11 @@ ghost use Rattle.meaning.specs.Register.{marks_of};
 ghost use Rattle.meaning.specs.Summary.{class_of as class_of_word, class_at};
 ghost use Rattle.meaning.specs.RegisterFile.{register_in};
 ghost use Rattle.meaning.specs.SummaryFile.{summary_in};
+ghost use Rattle.proposed.specs.Proposed.{Proposed};
 
 use names::{Class, Item};
 use proposed::Proposal;
+use reader::Summary;
 
 // "each item's marks equal its class's".
 pub fn marks_equal(p: &Proposal) -> bool
@@ -29,41 +31,41 @@ pub fn marks_equal(p: &Proposal) -> bool
 }
 
 // The class of each item.
-fn put_classes(p: &Proposal, classes: &mut [u16])
-    requires { length classes.old ≡ p.now.register.items }
-    ensures { (x : ℕ) → x < p.now.register.items → get_or classes.new x 0 ≡ class_at (summary_in p.now.summary.bytes.now) x }
+fn put_classes(n: usize, s: &Summary, classes: &mut [u16])
+    requires { Proposed s.now.bytes.now n × (length classes.old ≡ n) }
+    ensures { (x : ℕ) → x < n → get_or classes.new x 0 ≡ class_at (summary_in s.now.bytes.now) x }
 {
-    for x in 0..p.register.items {
-        let class = p.summary.class_of(Item(x as u16));
+    for x in 0..n {
+        let class = s.class_of(Item(x as u16));
         classes[x] = class.0;
     }
 }
 
 // "each class's stated count equals its number of items capped at ν".
-pub fn counts_equal(p: &Proposal, nu: u8) -> bool
-    requires { nu ≡ (summary_in p.now.summary.bytes.now).class_cap }
-    ensures { result ≡ all (λ k. eqb (class_of_word (summary_in p.now.summary.bytes.now) k).count
-        (cap (summary_in p.now.summary.bytes.now).class_cap
-        (tally (λ x. eqb (class_at (summary_in p.now.summary.bytes.now) x) k) p.now.register.items)))
-        (length (summary_in p.now.summary.bytes.now).classes) }
+pub fn counts_equal(n: usize, s: &Summary, nu: u8) -> bool
+    requires { Proposed s.now.bytes.now n × (nu ≡ (summary_in s.now.bytes.now).class_cap) }
+    ensures { result ≡ all (λ k. eqb (class_of_word (summary_in s.now.bytes.now) k).count
+        (cap (summary_in s.now.bytes.now).class_cap
+        (tally (λ x. eqb (class_at (summary_in s.now.bytes.now) x) k) n)))
+        (length (summary_in s.now.bytes.now).classes) }
 {
     let mut classes = [0u16; 1024];
-    counts_stated(p, nu, &mut classes[..p.register.items])
+    counts_stated(n, s, nu, &mut classes[..n])
 }
 
 // The same, with room lent for the class of each item.
-fn counts_stated(p: &Proposal, nu: u8, classes: &mut [u16]) -> bool
-    requires { (nu ≡ (summary_in p.now.summary.bytes.now).class_cap) × (length classes.old ≡ p.now.register.items) }
-    ensures { result ≡ all (λ k. eqb (class_of_word (summary_in p.now.summary.bytes.now) k).count
-        (cap (summary_in p.now.summary.bytes.now).class_cap
-        (tally (λ x. eqb (class_at (summary_in p.now.summary.bytes.now) x) k) p.now.register.items)))
-        (length (summary_in p.now.summary.bytes.now).classes) }
+fn counts_stated(n: usize, s: &Summary, nu: u8, classes: &mut [u16]) -> bool
+    requires { (nu ≡ (summary_in s.now.bytes.now).class_cap) × Proposed s.now.bytes.now n × (length classes.old ≡ n) }
+    ensures { result ≡ all (λ k. eqb (class_of_word (summary_in s.now.bytes.now) k).count
+        (cap (summary_in s.now.bytes.now).class_cap
+        (tally (λ x. eqb (class_at (summary_in s.now.bytes.now) x) k) n)))
+        (length (summary_in s.now.bytes.now).classes) }
 {
-    put_classes(p, classes);
+    put_classes(n, s, classes);
     let counts = capped::by_class(classes, nu);
-    for k in 0..p.summary.classes() {
+    for k in 0..s.classes() {
         let counted = counts[k];
-        if p.summary.count(Class(k as u16)) != counted.number {
+        if s.count(Class(k as u16)) != counted.number {
             return false;
         }
     }

@@ -125,22 +125,21 @@ fn ins_made<'a>(reg: &Register, incoming: bool, ins: &'a mut [u16]) -> &'a [u16]
     ins
 }
 
-// Whether some entry is one of "the same, incoming".
+// Whether some entry is one of "the same, incoming": entry by entry, up to the first that is.
 fn asks_incoming(q: &[u8]) -> Result<bool, Refusal> {
-    let mut incoming = false;
     for j in 0..q.len() / 4 {
         let Some(kind) = entry::read(q, j) else {
             return Err(Refusal::Question);
         };
-        incoming |= matches!(
-            kind,
-            Kind::AtLeast {
-                direction: Direction::Incoming,
-                ..
-            }
-        );
+        if let Kind::AtLeast {
+            direction: Direction::Incoming,
+            ..
+        } = kind
+        {
+            return Ok(true);
+        }
     }
-    Ok(incoming)
+    Ok(false)
 }
 
 // Whether the tree at entry `at` holds at the item.
@@ -166,7 +165,7 @@ fn holds(asked: &Asked, at: usize, memory: &mut Memory, x: Item) -> Result<bool,
                 Ok(yes) => yes,
                 Err(unsaid) => return Err(unsaid),
             };
-            if memo::decides(kind, first) {
+            if memo::decides(kind, Ok(first)) {
                 return Ok(first);
             }
             let Ok(operand) = question::span(asked.question, at + 1) else {

@@ -192,7 +192,7 @@ fn list_answered(
         return Err(Refusal::Question);
     };
     let mut named = [0u16; 1024];
-    let r = listed::put_items(s, held, &mut named);
+    let r = listed::put_items(&s.summary, held, &mut named);
     listed::put_list(&named[..r], out)
 }
 

@@ -1,9 +1,10 @@
 -- What was found of an entry at a place, and what is kept of it: 0 for not known, 1 for no, 2 for yes, each entry with 1,024 places of its own.
 -- Leans on question's trees.
-use Rattle.std.specs.Prelude.{Option, Some, None, eqb, ℕ, ◌+◌, ◌*◌, ◌≤◌, ◌<◌, ◌≡◌, Bool, true, false, not, cond, List, ◌⊎◌, ltb, length, get_or}
+use Rattle.std.specs.Prelude.{Option, Some, None, Result, Ok, Err, eqb, ℕ, ◌+◌, ◌*◌, ◌≤◌, ◌<◌, ◌≡◌, Bool, true, false, not, cond, List, ◌⊎◌, ltb, length, get_or}
 use Rattle.meaning.specs.declared.Kind.{Kind}
 use Rattle.meaning.specs.declared.Kind.TheVariants.{True, Literal, Not, And, Or, AtLeast}
 use Rattle.meaning.specs.Question.{Question}
+use Rattle.meaning.specs.declared.Refusal.{Refusal}
 use Rattle.question.specs.Read.{Parsed}
 
 -- what is said of the tree at entry i is so, where a tree's truth is given
@@ -22,6 +23,11 @@ any (AtLeast d l n) = false
 -- "and, or": whether the first operand decides
 abbrev pub decides : Kind → Bool → Bool
 decides k b = cond (any k) b (not b)
+
+-- where the first operand may be refused, and then decides too
+abbrev pub settles : Kind → Result Bool Refusal → Bool
+settles k (Ok b) = decides k b
+settles k (Err r) = true
 
 abbrev pub tell : Bool → ℕ
 tell true = 2

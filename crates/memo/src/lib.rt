@@ -6,15 +6,18 @@ ghost use Rattle.std.specs.Prelude.{◌≡◌, ◌<◌, get_or, set};
 ghost use Rattle.memo.specs.Kept.{tell, slot};
 ghost use Rattle.memo.specs.Kept as kept;
 
-use meaning::Kind;
+use meaning::{Kind, Refusal};
 
-// "and, or, two operands": whether the first one's answer is the whole's, so that the second need not be asked.
-pub fn decides(kind: Kind, first: bool) -> bool
-    ensures { result ≡ kept.decides kind first }
+// "and, or, two operands": whether the first one's answer is the whole's, so that the second need not be asked. A refusal is.
+pub fn decides(kind: Kind, first: Result<bool, Refusal>) -> bool
+    ensures { result ≡ kept.settles kind first }
 {
+    let Ok(yes) = first else {
+        return true;
+    };
     match kind {
-        Kind::Or => first,
-        _ => !first,
+        Kind::Or => yes,
+        _ => !yes,
     }
 }
 

@@ -28,7 +28,7 @@ pub fn check(reg: &Register, s: &WellFormed) -> bool
     if !counted::marks_equal(&proposal) {
         return false;
     }
-    if !counted::counts_equal(&proposal, nu) {
+    if !counted::counts_equal(reg.items, &s.summary, nu) {
         return false;
     }
     if !images::links_are_images(&proposal) {

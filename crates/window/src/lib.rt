@@ -2,15 +2,16 @@
 // header for a well-formed summary with the keys of its rows, and on seek for the rows.
 #![tactic(auto)]
 
-ghost use Rattle.std.specs.Prelude.{◌≡◌, ℕ, ◌<◌, length, get_or};
+ghost use Rattle.std.specs.Prelude.{◌≡◌, true, ℕ, ◌<◌, length, get_or};
 ghost use Rattle.meaning.specs.Summary.{lowest_class};
 ghost use Rattle.meaning.specs.WellFormed as meant;
-ghost use Rattle.meaning.specs.SummaryFile.{summary_in};
+ghost use Rattle.meaning.specs.SummaryFile.{summary_in, well_formed_file};
 ghost use Rattle.window.specs.Own.{Own};
 
 use header::WellFormed;
 use meaning::Direction;
 use names::{Class, Group};
+use reader::Summary;
 
 // The rows from `low` up to `high`.
 #[derive(Clone, Copy)]
@@ -22,14 +23,14 @@ pub struct Rows {
 // "the group's lowest-numbered class", for each group. From the last class to the first, each is entered at its group, so that the lowest
 // is the last to be.
 #[tactic(auto, using(crate::proofs::Lowest::lowest))]
-pub fn put_lowest(s: &WellFormed, lowest: &mut [u16])
-    requires { length lowest.old ≡ 1024 }
-    ensures { (length lowest.new ≡ 1024) × ((g : ℕ) → g < (summary_in s.now.summary.bytes.now).groups →
-        get_or lowest.new g 0 ≡ lowest_class (summary_in s.now.summary.bytes.now) g) }
+pub fn put_lowest(s: &Summary, lowest: &mut [u16])
+    requires { (well_formed_file s.now.bytes.now ≡ true) × (length lowest.old ≡ 1024) }
+    ensures { (length lowest.new ≡ 1024) × ((g : ℕ) → g < (summary_in s.now.bytes.now).groups →
+        get_or lowest.new g 0 ≡ lowest_class (summary_in s.now.bytes.now) g) }
 {
-    for k in (0..s.summary.classes() as u16).rev() {
+    for k in (0..s.classes() as u16).rev() {
         let class = Class(k);
-        lowest[s.summary.group(class).index()] = class.0;
+        lowest[s.group(class).index()] = class.0;
     }
 }
 

@@ -8,5 +8,5 @@ use Rattle.counted.proofs.counts_stated.Given as goal
 
 abbrev pub invariant-loop-k : goal.invariant-loop-k
 invariant-loop-k l =
-    let S = summary_in l.p.summary.bytes.now in
-    (i : ℕ) → i < l.k → eqb (class_of S i).count (cap S.class_cap (tally (λ x. eqb (class_at S x) i) l.p.register.items)) ≡ true
+    let S = summary_in l.s.bytes.now in
+    (i : ℕ) → i < l.k → eqb (class_of S i).count (cap S.class_cap (tally (λ x. eqb (class_at S x) i) l.n)) ≡ true

@@ -7,4 +7,4 @@ use Rattle.listed.proofs.put_items.Given as goal
 
 abbrev pub invariant-loop-x : goal.invariant-loop-x
 invariant-loop-x l =
-    let on = those (passes l.s.summary.bytes.now l.answers) l.x in (l.r ≡ length on) × (take l.r l.out ≡ on) × (length l.out ≡ length l.initial.out)
+    let on = those (passes l.s.bytes.now l.answers) l.x in (l.r ≡ length on) × (take l.r l.out ≡ on) × (length l.out ≡ length l.initial.out)

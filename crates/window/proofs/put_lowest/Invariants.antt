@@ -4,4 +4,4 @@ use Rattle.window.proofs.Lowest.{Entered}
 use Rattle.window.proofs.put_lowest.Given as goal
 
 abbrev pub invariant-loop-k : goal.invariant-loop-k
-invariant-loop-k l = Entered (summary_in l.s.summary.bytes.now) l.lowest l.k
+invariant-loop-k l = Entered (summary_in l.s.bytes.now) l.lowest l.k
