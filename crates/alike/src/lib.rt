@@ -2,44 +2,46 @@
 // array: the rows of the items, then numbers by signature. Leans on marked for level 0, on surround for the rows, on signature.
 #![tactic(auto)]
 
-ghost use Rattle.std.specs.Prelude.{◌≡◌, true, ◌≤◌, length};
+ghost use Rattle.std.specs.Prelude.{◌≡◌, true, ◌*◌, ◌≤◌, ◌<◌, length};
 ghost use Rattle.meaning.specs.Count.{tab};
 ghost use Rattle.meaning.specs.Level.{number, alike_next, class_count};
 ghost use Rattle.meaning.specs.RegisterFile.{register_in};
 ghost use Rattle.surround.specs.Surroundings.{OfClasses, RowsStand};
-ghost use Rattle.alike.specs.Step.{Reached};
+ghost use Rattle.alike.specs.Step.{Room as RoomFor, Reached};
 
 use radix::Room;
 use register::Register;
-use rows::Rows;
 use signature::Signatures;
 
 // "alike at level j + 1 when they are alike at level j and, for each direction, label and level-j class, they have equal numbers of
 // neighbours in that class, capped at µ": from the class list of level j that of level j + 1, and how many classes it has. The rows that
-// were compared stay in rows.
+// were compared stay in rows and starts.
 pub fn step(
     reg: &Register,
     mu: u8,
     cs: &[u16],
     out: &mut [u16],
-    rows: &mut Rows,
+    rows: &mut [u64],
+    starts: &mut [u16],
     room: Room,
 ) -> usize
-    requires { OfClasses cs.now reg.now.items × (length cs.now ≡ reg.now.items) × (mu ≤ 7) × (length out.old ≡ reg.now.items) }
+    requires given { OfClasses cs.now reg.now.items × (length cs.now ≡ reg.now.items) × (mu ≤ 7) × (length out.old ≡ reg.now.items) }
+    requires room { RoomFor reg.now.items reg.now.links (length rows.old) (length starts.old)
+        (length room.keys.now) (length room.other.now) }
     ensures { (result ≡ class_count (tab (number (alike_next (register_in reg.now.bytes.now) mu cs.now)) reg.now.items))
         × (out.new ≡ tab (number (alike_next (register_in reg.now.bytes.now) mu cs.now)) reg.now.items)
-        × RowsStand (register_in reg.now.bytes.now) mu cs.now reg.now.items rows.new.starts rows.new.words }
+        × RowsStand (register_in reg.now.bytes.now) mu cs.now reg.now.items starts.new rows.new }
 {
     let Room { keys, other } = room;
     let lent = Room {
         keys: &mut *keys,
         other: &mut *other,
     };
-    surround::put_item_rows(reg, mu, cs, rows, lent);
+    surround::put_item_rows(reg, mu, cs, rows, starts, lent);
     let signatures = Signatures {
         groups: cs,
-        starts: &rows.starts,
-        rows: &rows.words,
+        starts,
+        rows,
     };
     signatures.number(out, Room { keys, other })
 }
@@ -74,18 +76,21 @@ pub struct Counts {
 }
 
 // The class lists of level i − 1, in lower, and of level i, in upper, with their class counts; and the rows of the items against the
-// former. Each step reads the one list, finished, and writes the other. A step that changes nothing is the last that could.
+// former, in rows and starts. Each step reads the one list, finished, and writes the other. A step that changes nothing is the last that
+// could.
 pub fn levels(
     reg: &Register,
     mu: u8,
     i: usize,
     lower: &mut [u16],
     upper: &mut [u16],
-    rows: &mut Rows,
+    rows: &mut [u64],
+    starts: &mut [u16],
 ) -> Counts
-    requires { (mu ≤ 7) × (1 ≤ i) × (length lower.old ≡ reg.now.items) × (length upper.old ≡ reg.now.items) }
+    requires given { (mu ≤ 7) × (1 ≤ i) × (length lower.old ≡ reg.now.items) × (length upper.old ≡ reg.now.items) }
+    requires room { (2 * reg.now.links ≤ length rows.old) × (reg.now.items < length starts.old) }
     ensures { Reached (register_in reg.now.bytes.now) mu reg.now.items i lower.new upper.new
-        result.groups result.classes rows.new.starts rows.new.words }
+        result.groups result.classes starts.new rows.new }
 {
     let mut keys = [0u64; 4096];
     let mut other = [0u64; 4096];
@@ -102,7 +107,7 @@ pub fn levels(
             keys: &mut keys,
             other: &mut other,
         };
-        classes = step(reg, mu, lower, upper, rows, room);
+        classes = step(reg, mu, lower, upper, rows, starts, room);
         if same_classes(lower, upper) {
             break;
         }

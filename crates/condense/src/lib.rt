@@ -12,7 +12,6 @@ ghost use Rattle.condense.specs.Classed.{Classed};
 
 use meaning::Refusal;
 use register::Register;
-use rows::Rows;
 use summary::Parts;
 
 // The level and the caps that are wanted: i, µ and ν.
@@ -52,24 +51,23 @@ fn condense_in(
     ensures { Gives result out.old out.new
         (into (length out.old) (summary_bytes (summary_of wanted.level wanted.near_cap wanted.class_cap (register_in reg.now.bytes.now)))) }
 {
-    let mut rows = Rows {
-        words: [0; 4096],
-        starts: [0; 1025],
-    };
+    let mut words = [0u64; 4096];
+    let mut starts = [0u16; 1025];
     let counts = alike::levels(
         reg,
         wanted.near_cap,
         wanted.level as usize,
         groups,
         map,
-        &mut rows,
+        &mut words,
+        &mut starts,
     );
     let items = Classified {
         counts,
         groups: &*groups,
         map,
-        starts: &rows.starts,
-        words: &rows.words,
+        starts: &starts,
+        words: &words,
     };
     put_summary(reg, wanted, &items, out)
 }

@@ -15,14 +15,15 @@ use register::Register;
 
 // "Two items are alike at level 0 when their marks fields are equal": the class list of level 0, and how many classes it has.
 pub fn by_marks(reg: &Register, out: &mut [u16], room: Room) -> usize
-    requires { length out.old ≡ reg.now.items }
+    requires { (length out.old ≡ reg.now.items) × (reg.now.items ≤ length room.keys.now) × (reg.now.items ≤ length room.other.now) }
     ensures { (µ : ℕ) → (result ≡ class_count (class_list (register_in reg.now.bytes.now) µ 0))
         × (out.new ≡ class_list (register_in reg.now.bytes.now) µ 0) }
 {
     let mut marks = [0u32; 1024];
     let marks = &mut marks[..reg.items];
     read_marks(reg, marks);
-    number_by_marks(marks, out, room)
+    let Room { keys, other } = room;
+    number_by_marks(marks, out, keys, other)
 }
 
 // The marks fields of all items.
@@ -36,13 +37,13 @@ fn read_marks(reg: &Register, marks: &mut [u32])
 }
 
 // Each item's number by its marks.
-fn number_by_marks(marks: &[u32], out: &mut [u16], room: Room) -> usize
-    requires { (length marks.now ≤ 1024) × (length out.old ≡ length marks.now) }
+fn number_by_marks(marks: &[u32], out: &mut [u16], keys: &mut [u64], other: &mut [u64]) -> usize
+    requires { (length marks.now ≤ 1024) × (length out.old ≡ length marks.now)
+        × (length marks.now ≤ length keys.old) × (length marks.now ≤ length other.old) }
     ensures { (result ≡ class_count (tab (number (same_marks marks.now)) (length marks.now)))
         × (out.new ≡ tab (number (same_marks marks.now)) (length marks.now)) }
 {
     let n = marks.len();
-    let Room { keys, other } = room;
     let words = &mut keys[..n];
     put_marks(marks, words);
     radix::sort(words, other);

@@ -12,13 +12,6 @@ use capped::Capped;
 // So many keys an item may have.
 const KEYS: u64 = 32768;
 
-// The rows of items one after the other, and where each item's start: starts[x] for item x, starts[n] where all n end.
-#[derive(Drop)]
-pub struct Rows {
-    pub words: [u64; 4096],
-    pub starts: [u16; 1025],
-}
-
 // The key at place p, or stop past the end.
 fn key_or(s: &[u64], p: usize, stop: u64) -> u64
     ensures { (p < length s.now → result ≡ get_or s.now p 0) × (length s.now ≤ p → result ≡ stop) }
@@ -51,7 +44,8 @@ fn run_from(s: &[u64], p: usize, mu: u8) -> Run
     }
 }
 
-// The rows of n items with these keys, as Rows has them; how many they are. The loop is `while`: an item is left where its keys end.
+// The rows of n items with these keys, one item after the other, and where each item's start: starts[x] for item x, starts[n] where all
+// end; how many they are. The loop is `while`: an item is left where its keys end.
 pub fn put_rows(s: &[u64], n: usize, mu: u8, rows: &mut [u64], starts: &mut [u16]) -> usize
     requires small { (length s.now < 65536) × (n < 65536) × (mu < 15) }
     requires room { (length s.now ≤ length rows.old) × (n < length starts.old) }

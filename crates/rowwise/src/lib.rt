@@ -18,7 +18,6 @@ use names::{Class, Item};
 use radix::Room;
 use reader::Summary;
 use register::Register;
-use rows::Rows;
 
 // So many keys of rows a class may have: a key has a way and a group below 65,536 each.
 const CLASS_KEYS: u64 = 4294967296;
@@ -115,10 +114,8 @@ fn rows_held(reg: &Register, s: &WellFormed, mu: u8, groups: &mut [u16]) -> bool
         && row_right (register_in reg.now.bytes.now) (summary_in s.now.summary.bytes.now) x l q Incoming)
         (summary_in s.now.summary.bytes.now).groups) 16) reg.now.items }
 {
-    let mut rows = Rows {
-        words: [0; 4096],
-        starts: [0; 1025],
-    };
+    let mut words = [0u64; 4096];
+    let mut starts = [0u16; 1025];
     let mut keys = [0u64; 4096];
     let mut other = [0u64; 4096];
     put_groups(s, groups);
@@ -126,11 +123,12 @@ fn rows_held(reg: &Register, s: &WellFormed, mu: u8, groups: &mut [u16]) -> bool
         reg,
         mu,
         groups,
-        &mut rows,
+        &mut words,
+        &mut starts,
         Room {
             keys: &mut keys,
             other: &mut other,
         },
     );
-    item_rows_equal(reg.items, s, &rows.starts, &rows.words)
+    item_rows_equal(reg.items, s, &starts, &words)
 }

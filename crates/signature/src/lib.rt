@@ -120,7 +120,8 @@ impl<'a> Signatures<'a> {
 
     // Each item's number: items of one signature have one number, numbered in order of their lowest item.
     pub fn number(&self, out: &mut [u16], room: Room) -> usize
-        requires { length out.old ≡ length self.now.groups.now }
+        requires { (length out.old ≡ length self.now.groups.now)
+            × (length self.now.groups.now ≤ length room.keys.now) × (length self.now.groups.now ≤ length room.other.now) }
         ensures { (result ≡ class_count (tab (number (alike_sig self.now.groups.now self.now.starts.now self.now.rows.now)) (length self.now.groups.now)))
             × (out.new ≡ tab (number (alike_sig self.now.groups.now self.now.starts.now self.now.rows.now)) (length self.now.groups.now)) }
     {

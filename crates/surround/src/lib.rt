@@ -13,7 +13,6 @@ ghost use Rattle.surround.specs.Surroundings.{OfClasses, key_of, all_keys, item_
 use meaning::Direction;
 use radix::Room;
 use register::Register;
-use rows::Rows;
 
 // "direction times 16 plus label (out 0, in 1)".
 fn way_number(way: Direction, label: u8) -> u64
@@ -58,16 +57,25 @@ fn sort_keys(reg: &Register, cs: &[u16], keys: &mut [u64], other: &mut [u64])
     radix::sort(keys, other);
 }
 
-// The rows of all items against a class list.
-pub fn put_item_rows(reg: &Register, mu: u8, cs: &[u16], rows: &mut Rows, room: Room)
-    requires { OfClasses cs.now reg.now.items × (length cs.now ≡ reg.now.items) × (mu ≤ 7) }
-    ensures { (rows.new.words ≡ join (item_rows_word (register_in reg.now.bytes.now) mu cs.now) reg.now.items
-        ++ drop (item_start (register_in reg.now.bytes.now) mu cs.now reg.now.items) rows.old.words)
-        × (rows.new.starts ≡ tab (item_start (register_in reg.now.bytes.now) mu cs.now) (reg.now.items + 1)
-        ++ drop (reg.now.items + 1) rows.old.starts) }
+// The rows of all items against a class list: those of item x stand in rows from starts[x] on, and end where those of x + 1 start.
+pub fn put_item_rows(
+    reg: &Register,
+    mu: u8,
+    cs: &[u16],
+    rows: &mut [u64],
+    starts: &mut [u16],
+    room: Room,
+)
+    requires given { OfClasses cs.now reg.now.items × (length cs.now ≡ reg.now.items) × (mu ≤ 7) }
+    requires room { (2 * reg.now.links ≤ length rows.old) × (reg.now.items < length starts.old)
+        × (2 * reg.now.links ≤ length room.keys.now) × (2 * reg.now.links ≤ length room.other.now) }
+    ensures { (rows.new ≡ join (item_rows_word (register_in reg.now.bytes.now) mu cs.now) reg.now.items
+        ++ drop (item_start (register_in reg.now.bytes.now) mu cs.now reg.now.items) rows.old)
+        × (starts.new ≡ tab (item_start (register_in reg.now.bytes.now) mu cs.now) (reg.now.items + 1)
+        ++ drop (reg.now.items + 1) starts.old) }
 {
     let Room { keys, other } = room;
     let keys = &mut keys[..2 * reg.links];
     sort_keys(reg, cs, keys, other);
-    rows::put_rows(keys, reg.items, mu, &mut rows.words, &mut rows.starts);
+    rows::put_rows(keys, reg.items, mu, rows, starts);
 }

@@ -4,4 +4,4 @@ use Rattle.meaning.specs.RegisterFile.{register_in}
 use Rattle.alike.proofs.levels.Given as goal
 
 abbrev pub invariant-loop : goal.invariant-loop
-invariant-loop l = Going (register_in l.reg.bytes.now) l.mu l.reg.items l.counter l.lower l.upper l.groups l.classes l.rows.starts l.rows.words
+invariant-loop l = Going (register_in l.reg.bytes.now) l.mu l.reg.items l.counter l.lower l.upper l.groups l.classes l.starts l.rows

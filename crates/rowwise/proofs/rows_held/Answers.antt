@@ -8,8 +8,8 @@ use Rattle.proposed.proofs.Laws.{proposed}
 use Rattle.rowwise.proofs.Items.{groups_long, groups_listed, starts_rise, items_held}
 use Rattle.rowwise.proofs.rows_held.Goals as goal
 
-pub put_item_rows-requires : goal.put_item_rows-requires
-put_item_rows-requires c =
+pub put_item_rows-requires-clause-given : goal.put_item_rows-requires-clause-given
+put_item_rows-requires-clause-given c =
     let reg = c.args.reg.now in
     let p = proposed _ _ c.args.s.now.well c.requires.0 in
     let e = c.put_groups.ensures ∙ ap (tab (group_at (summary_in c.args.s.now.summary.bytes.now))) c.requires.0 in

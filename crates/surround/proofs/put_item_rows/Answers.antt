@@ -18,8 +18,8 @@ returns c =
     let r = c.put_rows.ensures in
     let e = c.sort_keys.ensures in
     let k : length c.sort_keys.new.keys ≡ 2 * reg.links = ap length e ∙ length_sorted _ (2 * reg.links) in (
-      rows_written reg.bytes.now reg.items reg.links reg.accepted cs c.requires.0 c.requires.1 a.mu _ _ k e _ _ _ r.0 r.1,
+      rows_written reg.bytes.now reg.items reg.links reg.accepted cs c.requires.given.0 c.requires.given.1 a.mu _ _ k e _ _ _ r.0 r.1,
       r.2
-          ∙ ap (λ (l : List ℕ). l ++ drop (reg.items + 1) a.rows.now.starts)
-          (starts_written reg.bytes.now reg.items reg.links reg.accepted cs c.requires.0 c.requires.1 a.mu _ _ k e),
+          ∙ ap (λ (l : List ℕ). l ++ drop (reg.items + 1) a.starts.now)
+          (starts_written reg.bytes.now reg.items reg.links reg.accepted cs c.requires.given.0 c.requires.given.1 a.mu _ _ k e),
     )
