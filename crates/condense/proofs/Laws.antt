@@ -1,6 +1,6 @@
 -- The parts that the writer gathers are those of the summary of these groups and classes, within their limits. Leans on theory's limits,
 -- on alike's levels and on summary's laws of parts.
-use mathlib.Core.Path.{◌≡◌, sym, subst, ◌∙◌}
+use mathlib.Core.Path.{◌≡◌, refl, sym, subst, ◌∙◌}
 use mathlib.Core.List.{List}
 use Prim.Native.Nat.{ℕ, ◌*◌, ◌≤◌, pred}
 use native.Mathlib.Omega.{arith}
@@ -12,14 +12,15 @@ use Rattle.meaning.specs.Condense.{class_for, summary_by, summary_of}
 use Rattle.meaning.specs.Bytes.{put2, pack}
 use Rattle.meaning.specs.RegisterFile.{register_in}
 use Rattle.meaning.specs.SummaryFile.{summary_bytes}
+use Rattle.theory.proofs.CountLaws.{length_tab}
 use Rattle.theory.proofs.LimitLaws.{rows_most, links_most}
 use Rattle.theory.proofs.ClassListLaws.{class_list_law}
 use Rattle.register.specs.Told.{OfRegister}
 use Rattle.register.proofs.Laws.{limits}
 use Rattle.alike.specs.Step.{Reached}
 use Rattle.surround.proofs.Keys.{of_fine}
-use Rattle.summary.specs.Numbers.{numbers, summary_numbers, class_fields, class_numbers, row_numbers, edge_numbers}
-use Rattle.summary.proofs.Laws.{numbers_bytes}
+use Rattle.summary.specs.Numbers.{numbers, head_of, head_numbers, class_fields, class_numbers, row_numbers, edge_numbers}
+use Rattle.summary.proofs.Laws.{parts_bytes}
 use Rattle.classes.specs.Counted.{Sorted}
 use Rattle.filed.specs.Copied.{Given, class_rows}
 use Rattle.filed.proofs.Laws.{rows_long}
@@ -94,12 +95,21 @@ module _ {b : List ℕ} {n m µ g c : ℕ} {groups map starts words : List ℕ} 
   pub rows_fit : (r : ℕ) (out : List ℕ) → Rows r out → (r ≡ length (class_rows R µ gs cs)) × (take (4 * r) out ≡ pack row_numbers (class_rows R µ gs cs)) × (r ≤ 4096)
   rows_fit r out w = let e = w R µ gs given in (e.0, e.1, omega (arith, e, few_rows))
 
-  pub bytes_are : (ν i : ℕ) {rows edges : List ℕ} (classes : List ℕ) →
+  -- the header's numbers from the counts
+  pub head_is : (ν i r e : ℕ) {head : List ℕ} → r ≡ length (class_rows R µ gs cs) → e ≡ length (class_links R cs) →
+      head ≡ head_of i µ ν c g r e n → head ≡ head_numbers (summary_by µ ν R gs cs i)
+  unfolding head_numbers head_of summary_by
+  head_is ν i r e hr he h =
+      let lc : c ≡ length (tab (class_for ν R gs cs) (class_count cs)) = k.classes_are ∙ sym (length_tab (class_for ν R gs cs) (class_count cs)) in
+      let lm : n ≡ length cs = sym map_long in
+      rw (h, lc, lm, k.groups_are, hr, he)
+
+  pub bytes_are : (ν i : ℕ) {head rows edges : List ℕ} (classes : List ℕ) → head ≡ head_numbers (summary_by µ ν R gs cs i) →
       take (class_fields * class_count cs) classes ≡ pack class_numbers (tab (class_for ν R gs cs) (class_count cs)) →
       rows ≡ pack row_numbers (class_rows R µ gs cs) → edges ≡ pack edge_numbers (class_links R cs) →
-      pack put2 (numbers i µ ν g (take (class_fields * c) classes) rows edges cs) ≡ summary_bytes (summary_by µ ν R gs cs i)
-  unfolding summary_numbers summary_by
-  bytes_are ν i classes l o q = rw (k.groups_are, k.classes_are, l, o, q) (numbers_bytes (summary_by µ ν R gs cs i))
+      pack put2 (numbers head (take (class_fields * c) classes) rows edges cs) ≡ summary_bytes (summary_by µ ν R gs cs i)
+  unfolding summary_by
+  bytes_are ν i classes h l o q = parts_bytes (summary_by µ ν R gs cs i) _ _ _ _ _ h (rw k.classes_are l) o q refl
 
 -- ---- from the levels to the summary
 

@@ -99,11 +99,18 @@ fn put_summary(
     let r = filed::row_numbers(items.map, items.starts, items.words, &mut rows);
     let mut edges = [0u16; 6144];
     let e = edges::class_links(reg, items.map, &mut edges);
+    let of = summary::Counts {
+        classes: items.counts.classes as u16,
+        groups: items.counts.groups as u16,
+        rows: r as u16,
+        edges: e as u16,
+        items: reg.items as u16,
+    };
+    let near = wanted.near_cap as u16;
+    let class = wanted.class_cap as u16;
+    let head = summary::head(wanted.level, near, class, of);
     let parts = Parts {
-        level: wanted.level,
-        near: wanted.near_cap,
-        class: wanted.class_cap,
-        groups: items.counts.groups,
+        head: &head,
         classes: &classes[..summary::CLASS * items.counts.classes],
         rows: &rows[..summary::ROW * r],
         edges: &edges[..summary::EDGE * e],

@@ -11,6 +11,7 @@ ghost use Rattle.meaning.specs.SummaryFile.{row_is, summary_in};
 ghost use Rattle.meaning.specs.SummaryFile as file;
 ghost use Rattle.header.specs.Limits.{Sized};
 ghost use Rattle.fields.specs.Most.{most};
+ghost use Rattle.fields.specs.Places.{row_test, key_at};
 
 use names::Class;
 use reader::Summary;
@@ -65,30 +66,52 @@ impl Rows<'_> {
     }
 
     // Row j's class, direction with label, and group are in range, and its count is "1 to µ + 1".
-    #[tactic(auto, using(crate::proofs::Laws::label_same), unfolding(meaning::specs::WellFormed::row_in, meaning::specs::SummaryFile::row_is))]
+    #[tactic(auto, using(crate::proofs::Laws::label_same), unfolding(crate::specs::Places::row_test, meaning::specs::WellFormed::row_in, meaning::specs::SummaryFile::row_is))]
     pub fn fine(&self, j: usize) -> bool
         requires { j < length (summary_in self.now.bytes.now).rows }
         ensures { result ≡ row_in (summary_in self.now.bytes.now) (row_of (summary_in self.now.bytes.now) j) }
     {
-        let place = self.place(j);
-        (wire::two(self.bytes, place) as usize) < self.classes
-            && wire::two(self.bytes, place + 2) < 32
-            && wire::two(self.bytes, place + 4) < self.groups
-            && range::within(1, wire::two(self.bytes, place + 6), self.near_cap + 1)
+        row_fine(
+            self.bytes,
+            self.place(j),
+            self.classes,
+            self.groups,
+            self.near_cap,
+        )
     }
 
     // Row j's class, direction with label, and group side by side: rows ascend by this number.
-    #[tactic(auto, using(reader::proofs::Laws::way_again), unfolding(meaning::specs::WellFormed::row_key, meaning::specs::SummaryFile::row_is))]
+    #[tactic(auto, using(reader::proofs::Laws::way_again), unfolding(crate::specs::Places::key_at, meaning::specs::WellFormed::row_key, meaning::specs::SummaryFile::row_is))]
     pub fn key(&self, j: usize) -> u64
         requires { j < length (summary_in self.now.bytes.now).rows }
         ensures { (result ≡ row_key (row_of (summary_in self.now.bytes.now) j)) × (result < 281474976710656) }
     {
-        let place = self.place(j);
-        let class = wire::two(self.bytes, place) as u64;
-        let way = wire::two(self.bytes, place + 2) as u64;
-        let group = wire::two(self.bytes, place + 4) as u64;
-        (class * 65536 + way) * 65536 + group
+        row_key(self.bytes, self.place(j))
     }
+}
+
+// The row at a place, held against what the header says: classes, groups, and the cap of its count.
+#[tactic(auto, unfolding(crate::specs::Places::row_test))]
+pub fn row_fine(s: &[u8], at: usize, c: usize, g: u16, cap: u16) -> bool
+    requires { (at + 8 ≤ length s.now) × (cap ≤ 7) }
+    ensures { result ≡ row_test c g cap s.now at }
+{
+    (wire::two(s, at) as usize) < c
+        && wire::two(s, at + 2) < 32
+        && wire::two(s, at + 4) < g
+        && range::within(1, wire::two(s, at + 6), cap + 1)
+}
+
+// The class, the way and the group of the row at a place side by side: rows ascend by this number.
+#[tactic(auto, unfolding(crate::specs::Places::key_at))]
+pub fn row_key(s: &[u8], at: usize) -> u64
+    requires { at + 8 ≤ length s.now }
+    ensures { (result ≡ key_at s.now at) × (result < 281474976710656) }
+{
+    let class = wire::two(s, at) as u64;
+    let way = wire::two(s, at + 2) as u64;
+    let group = wire::two(s, at + 4) as u64;
+    (class * 65536 + way) * 65536 + group
 }
 
 // The map's numbers are classes: the greatest of them is.

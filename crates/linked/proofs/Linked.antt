@@ -363,7 +363,7 @@ below-edges : edges-link.Below world
 below-edges = (names-link.has-Class-index world there-names below-names, (names-link.has-Item-index world there-names below-names, (radix-link.has-sort world there-radix below-radix, (register-link.has-Register-label world there-register below-register, (register-link.has-Register-source world there-register below-register, (register-link.has-Register-target world there-register below-register, tt))))))
 
 below-condense : condense-link.Below world
-below-condense = (alike-link.has-levels world there-alike below-alike, (classes-link.has-records world there-classes below-classes, (edges-link.has-class_links world there-edges below-edges, (filed-link.has-row_numbers world there-filed below-filed, (summary-link.has-file world there-summary below-summary, tt)))))
+below-condense = (alike-link.has-levels world there-alike below-alike, (classes-link.has-records world there-classes below-classes, (edges-link.has-class_links world there-edges below-edges, (filed-link.has-row_numbers world there-filed below-filed, (summary-link.has-file world there-summary below-summary, (summary-link.has-head world there-summary below-summary, tt))))))
 
 below-seek : seek-link.Below world
 below-seek = tt

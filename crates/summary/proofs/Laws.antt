@@ -1,7 +1,7 @@
 -- The bytes of a summary are the bytes of its numbers, and five parts written one behind the other are one list. Leans on wire's Sets.
 use mathlib.Core.Path.{◌≡◌, refl, sym, ap, ap₂, ◌∙◌}
 use mathlib.Core.List.{List, [], ◌∷◌, ◌++◌, append-nil, append_assoc}
-use Prim.Native.Nat.{ℕ, ◌+◌, ◌*◌, ◌/◌}
+use Prim.Native.Nat.{ℕ, ◌+◌, ◌*◌}
 use native.Mathlib.Omega.{arith}
 use lib.ListN.{length, length-append}
 use lib.Seq.{sets}
@@ -12,7 +12,7 @@ use Rattle.meaning.specs.RegisterFile.{put_link}
 use Rattle.meaning.specs.SummaryFile.{put_class, put_row, summary_head, summary_bytes, summary_size}
 pub use Rattle.wire.proofs.Sets.{pack_append, size_numbers}
 use Rattle.wire.proofs.Sets.{then}
-use Rattle.summary.specs.Numbers.{class_fields, row_fields, edge_fields, class_numbers, row_numbers, edge_numbers, head_of, summary_numbers, numbers}
+use Rattle.summary.specs.Numbers.{class_fields, row_fields, edge_fields, class_numbers, row_numbers, edge_numbers, head_of, head_numbers, summary_numbers, numbers}
 
 -- ---- packing
 
@@ -41,25 +41,28 @@ unfolding pack
 size_records f w size [] = omega arith
 size_records f w size (a ∷ s) = omega (arith, length-append (f a) (pack f s), size a, size_records f w size s)
 
-head_bytes : (S : Summary) → pack put2 (head_of S.level S.near_cap S.class_cap (length S.classes) S.groups (length S.rows) (length S.links) (length S.map)) ≡ summary_head S
-unfolding pack head_of summary_head put2
+head_bytes : (S : Summary) → pack put2 (head_numbers S) ≡ summary_head S
+unfolding pack head_numbers head_of summary_head put2
 head_bytes S = refl
 
--- five parts that hold the numbers of a summary are its bytes, and so long is the file
-pub parts_bytes : (S : Summary) (head classes rows edges map : List ℕ) →
-    head ≡ head_of S.level S.near_cap S.class_cap (length S.classes) S.groups (length S.rows) (length S.links) (length S.map) →
-    classes ≡ pack class_numbers S.classes → rows ≡ pack row_numbers S.rows → edges ≡ pack edge_numbers S.links → map ≡ S.map →
-    pack put2 (head ++ (classes ++ (rows ++ (edges ++ map)))) ≡ summary_bytes S
-unfolding summary_bytes
-parts_bytes S head classes rows edges map h k o l m =
-    rw (h, k, o, l, m) (pack_append put2 (head_of S.level S.near_cap S.class_cap (length S.classes) S.groups (length S.rows) (length S.links) (length S.map)) _
+pub numbers_bytes : (S : Summary) → pack put2 (summary_numbers S) ≡ summary_bytes S
+unfolding summary_numbers summary_bytes
+numbers_bytes S =
+    pack_append put2 (head_numbers S) _
     ∙ ap₂ (λ (x y : List ℕ). x ++ y) (head_bytes S)
     (pack_append put2 (pack class_numbers S.classes) _
     ∙ ap₂ (λ (x y : List ℕ). x ++ y) (pack_pack class_numbers put_class class_bytes S.classes)
     (pack_append put2 (pack row_numbers S.rows) _
     ∙ ap₂ (λ (x y : List ℕ). x ++ y) (pack_pack row_numbers put_row row_bytes S.rows)
     (pack_append put2 (pack edge_numbers S.links) S.map
-    ∙ ap₂ (λ (x y : List ℕ). x ++ y) (pack_pack edge_numbers put_link edge_bytes S.links) (sym (append-nil (pack put2 S.map)))))))
+    ∙ ap₂ (λ (x y : List ℕ). x ++ y) (pack_pack edge_numbers put_link edge_bytes S.links) (sym (append-nil (pack put2 S.map))))))
+
+-- five parts that hold the numbers of a summary are its bytes, and so long is the file
+pub parts_bytes : (S : Summary) (head classes rows edges map : List ℕ) →
+    head ≡ head_numbers S → classes ≡ pack class_numbers S.classes → rows ≡ pack row_numbers S.rows →
+    edges ≡ pack edge_numbers S.links → map ≡ S.map → pack put2 (numbers head classes rows edges map) ≡ summary_bytes S
+unfolding numbers summary_numbers
+parts_bytes S head classes rows edges map h k o l m = rw (h, k, o, l, m) (numbers_bytes S)
 
 classes_long : (S : Summary) → length (pack class_numbers S.classes) ≡ class_fields * length S.classes
 unfolding class_numbers
@@ -73,16 +76,8 @@ edges_long : (S : Summary) → length (pack edge_numbers S.links) ≡ edge_field
 unfolding edge_numbers
 edges_long S = size_records edge_numbers edge_fields (λ a. refl) S.links
 
-pub numbers_bytes : (S : Summary) → pack put2 (summary_numbers S) ≡ summary_bytes S
-unfolding summary_numbers numbers class_numbers row_numbers edge_numbers
-numbers_bytes S =
-    let c : length (pack class_numbers S.classes) / class_fields ≡ length S.classes = omega (arith, classes_long S) in
-    let r : length (pack row_numbers S.rows) / row_fields ≡ length S.rows = omega (arith, rows_long S) in
-    let e : length (pack edge_numbers S.links) / edge_fields ≡ length S.links = omega (arith, edges_long S) in
-    parts_bytes S _ _ _ _ _ (rw (c, r, e) refl) refl refl refl refl
-
 pub bytes_long : (S : Summary) → length (summary_bytes S) ≡ summary_size (length S.classes) (length S.rows) (length S.links) (length S.map)
-unfolding summary_numbers numbers head_of
+unfolding summary_numbers head_numbers head_of
 bytes_long S =
     let C = pack class_numbers S.classes in
     let O = pack row_numbers S.rows in
@@ -101,13 +96,14 @@ bytes_long S =
 
 -- ---- five parts, one behind the other
 
-pub parts_long : (i µ ν g : ℕ) (c r e m : List ℕ) →
-    length (pack put2 (numbers i µ ν g c r e m)) ≡ 24 + 2 * (length c + length r + length e + length m)
-unfolding numbers head_of
-parts_long i µ ν g c r e m =
+pub parts_long : (h c r e m : List ℕ) →
+    length (pack put2 (numbers h c r e m)) ≡ 2 * (length h + length c + length r + length e + length m)
+unfolding numbers
+parts_long h c r e m =
     omega (
       arith,
-      size_numbers (head_of i µ ν (length c / class_fields) g (length r / row_fields) (length e / edge_fields) (length m) ++ (c ++ (r ++ (e ++ m)))),
+      size_numbers (h ++ (c ++ (r ++ (e ++ m)))),
+      length-append h (c ++ (r ++ (e ++ m))),
       length-append c (r ++ (e ++ m)),
       length-append r (e ++ m),
       length-append e m,
@@ -120,20 +116,12 @@ module _ (d h c r e m : List ℕ) (at₁ at₂ at₃ : ℕ) where
   regroup : (((h ++ c) ++ r) ++ e) ++ m ≡ h ++ (c ++ (r ++ (e ++ m)))
   regroup = simp append_assoc
 
-  behind : {v w x y z : List ℕ} → length h ≡ 12 → at₁ ≡ 24 + 2 * length c → at₂ ≡ at₁ + 2 * length r → at₃ ≡ at₂ + 2 * length e →
+  pub written : {v w x y z : List ℕ} → length h ≡ 12 → at₁ ≡ 24 + 2 * length c → at₂ ≡ at₁ + 2 * length r → at₃ ≡ at₂ + 2 * length e →
       v ≡ sets d 0 (pack put2 h) → w ≡ sets v 24 (pack put2 c) → x ≡ sets w at₁ (pack put2 r) → y ≡ sets x at₂ (pack put2 e) → z ≡ sets y at₃ (pack put2 m) →
-      z ≡ sets d 0 (pack put2 (h ++ (c ++ (r ++ (e ++ m)))))
-  behind long e₁ e₂ e₃ ev ew ex ey ez =
+      z ≡ sets d 0 (pack put2 (numbers h c r e m))
+  unfolding numbers
+  written long e₁ e₂ e₃ ev ew ex ey ez =
       let f = then_part h c 24 (omega arith) ev ew in
       let g = then_part (h ++ c) r at₁ (omega (arith, length-append h c)) f ex in
       let k = then_part ((h ++ c) ++ r) e at₂ (omega (arith, length-append h c, length-append (h ++ c) r)) g ey in
       rw (← regroup) (then_part (((h ++ c) ++ r) ++ e) m at₃ (omega (arith, length-append h c, length-append (h ++ c) r, length-append ((h ++ c) ++ r) e)) k ez)
-
-  pub written : (i µ ν g : ℕ) {v w x y z : List ℕ} →
-      h ≡ head_of i µ ν (length c / class_fields) g (length r / row_fields) (length e / edge_fields) (length m) →
-      at₁ ≡ 24 + 2 * length c → at₂ ≡ at₁ + 2 * length r → at₃ ≡ at₂ + 2 * length e →
-      v ≡ sets d 0 (pack put2 h) → w ≡ sets v 24 (pack put2 c) → x ≡ sets w at₁ (pack put2 r) → y ≡ sets x at₂ (pack put2 e) → z ≡ sets y at₃ (pack put2 m) →
-      z ≡ sets d 0 (pack put2 (numbers i µ ν g c r e m))
-  unfolding numbers head_of
-  written i µ ν g is e₁ e₂ e₃ ev ew ex ey ez =
-      behind (ap length is) e₁ e₂ e₃ ev ew ex ey ez ∙ ap (λ (s : List ℕ). sets d 0 (pack put2 (s ++ (c ++ (r ++ (e ++ m)))))) is

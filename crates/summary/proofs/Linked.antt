@@ -5,6 +5,7 @@ use prog.Linked.{Tree, World, Holds, in_world}
 use prog.LinkedThreads.{HasT}
 use Rattle.summary.proofs.TheLink
 use Rattle.summary.proofs.file.Symbol as file-symbol
+use Rattle.summary.proofs.head.Symbol as head-symbol
 
 abbrev pub table : Tree
 table = TheLink.table
@@ -17,3 +18,6 @@ Found c = (W : World) → Holds W "summary" table → Below W → HasT (in_world
 
 pub has-file : Found file-symbol.code
 has-file = TheLink.linked-summary::file
+
+pub has-head : Found head-symbol.code
+has-head = TheLink.linked-summary::head

@@ -30,12 +30,14 @@ edge_numbers a = a.source ∷ a.label ∷ a.target ∷ []
 unfoldable pub head_of : ℕ → ℕ → ℕ → ℕ → ℕ → ℕ → ℕ → ℕ → List ℕ
 head_of i µ ν c g r e n = i ∷ µ ∷ ν ∷ c ∷ g ∷ r ∷ e ∷ n ∷ 24 ∷ rows_offset c ∷ edges_offset c r ∷ map_offset c r e ∷ []
 
--- the numbers of a file whose parts are these: a header that counts them, and the parts one behind the other
-unfoldable pub numbers : (i µ ν g : ℕ) (classes rows edges map : List ℕ) → List ℕ
-numbers i µ ν g classes rows edges map =
-    head_of i µ ν (length classes / class_fields) g (length rows / row_fields) (length edges / edge_fields) (length map) ++ (classes ++ (rows ++ (edges ++ map)))
+unfoldable pub head_numbers : Summary → List ℕ
+head_numbers S =
+    head_of S.level S.near_cap S.class_cap (length S.classes) S.groups (length S.rows) (length S.links) (length S.map)
 
 -- the numbers of a summary; `numbers_bytes` says that the bytes of these are the summary's
 unfoldable pub summary_numbers : Summary → List ℕ
-summary_numbers S =
-    numbers S.level S.near_cap S.class_cap S.groups (pack class_numbers S.classes) (pack row_numbers S.rows) (pack edge_numbers S.links) S.map
+summary_numbers S = head_numbers S ++ (pack class_numbers S.classes ++ (pack row_numbers S.rows ++ (pack edge_numbers S.links ++ S.map)))
+
+-- five parts of numbers, one behind the other
+unfoldable pub numbers : List ℕ → List ℕ → List ℕ → List ℕ → List ℕ → List ℕ
+numbers head classes rows edges map = head ++ (classes ++ (rows ++ (edges ++ map)))

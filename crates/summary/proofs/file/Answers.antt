@@ -10,5 +10,5 @@ returns-then-out-long c = no_room _ _ (omega (arith, parts_long))
 pub returns : goal.returns
 returns c =
     whole _ _ _ _ (omega (arith, parts_long)) (omega (arith, parts_long))
-    (written _ _ _ _ _ _ _ _ _ _ _ _ _ c.head.ensures (omega arith) (omega arith) (omega arith)
+    (written _ _ _ _ _ _ _ _ _ c.args.of.now.few.0 (omega arith) (omega arith) (omega arith)
     c.put_numbers.ensures c.put_numbers-2.ensures c.put_numbers-3.ensures c.put_numbers-4.ensures c.put_numbers-5.ensures)
