@@ -67,11 +67,11 @@ and_out true t u e = e
 and_out false t u e = refl
 
 module _ (n rest : ℕ) where
-  no_label : 16 ≤ rest / 65536 → false ≡ rest_in n rest
+  pub no_label : 16 ≤ rest / 65536 → false ≡ rest_in n rest
   unfolding rest_in
   no_label h = sym (rw (le-ltb (rest / 65536) 16 h))
 
-  only_target : rest / 65536 < 16 → ltb (rest % 65536) n ≡ rest_in n rest
+  pub only_target : rest / 65536 < 16 → ltb (rest % 65536) n ≡ rest_in n rest
   unfolding rest_in
   only_target h = sym (rw (lt-ltb (rest / 65536) 16 h))
 

@@ -12,10 +12,12 @@ pub struct File {
 
 impl File {
     pub fn empty() -> File {
-        File {
-            bytes: [0; SIZE],
-            len: 0,
-        }
+        File::new([0; SIZE], 0)
+    }
+
+    // The first so many of the bytes.
+    pub fn new(bytes: [u8; SIZE], len: u16) -> File {
+        File { bytes, len }
     }
 
     pub fn bytes(&self) -> &[u8] {
