@@ -127,19 +127,23 @@ fn ins_made<'a>(reg: &Register, incoming: bool, ins: &'a mut [u16]) -> &'a [u16]
 
 // Whether some entry is one of "the same, incoming": entry by entry, up to the first that is.
 fn asks_incoming(q: &[u8]) -> Result<bool, Refusal> {
+    let mut incoming = false;
     for j in 0..q.len() / 4 {
         let Some(kind) = entry::read(q, j) else {
             return Err(Refusal::Question);
         };
-        if let Kind::AtLeast {
-            direction: Direction::Incoming,
-            ..
-        } = kind
-        {
-            return Ok(true);
+        incoming = matches!(
+            kind,
+            Kind::AtLeast {
+                direction: Direction::Incoming,
+                ..
+            }
+        );
+        if incoming {
+            break;
         }
     }
-    Ok(false)
+    Ok(incoming)
 }
 
 // Whether the tree at entry `at` holds at the item.
