@@ -35,6 +35,11 @@ impl Kept {
         &self.registers[self.exchanged as usize]
     }
 
+    // What an exchange makes the register.
+    pub fn other(&self) -> &File {
+        &self.registers[!self.exchanged as usize]
+    }
+
     pub fn file(&mut self, which: Which) -> &mut File {
         match which {
             Which::Register => &mut self.registers[self.exchanged as usize],
