@@ -1,5 +1,5 @@
 // Items counted and marks compared: "each item's marks equal its class's, each class's stated count equals its number of items capped at
-// ν". Leans on proposed for the two files, on capped for a count up to a cap.
+// ν". Leans on reader and proposed for the files, on capped for a count up to a cap.
 #![tactic(auto)]
 
 ghost use Rattle.std.specs.Prelude.{◌≡◌, ℕ, ◌<◌, eqb, length, get_or};

@@ -8,7 +8,8 @@ ghost use Rattle.memo.specs.Kept as kept;
 
 use meaning::{Kind, Refusal};
 
-// "and, or, two operands": whether the first one's answer is the whole's, so that the second need not be asked. A refusal is.
+// "and, or, two operands": whether the first one's answer is the whole's, so that the second need not be asked. A
+// refused first operand decides too.
 pub fn decides(kind: Kind, first: Result<bool, Refusal>) -> bool
     ensures { result ≡ kept.settles kind first }
 {

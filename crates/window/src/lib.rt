@@ -1,5 +1,5 @@
 // What a question on a summary looks up: the class's own rows in a direction and label, and "the group's lowest-numbered class". Leans on
-// header for a well-formed summary with the keys of its rows, and on seek for the rows.
+// reader for the file's numbers, on header for the keys of its rows, and on seek for the rows.
 #![tactic(auto)]
 
 ghost use Rattle.std.specs.Prelude.{◌≡◌, true, ℕ, ◌<◌, length, get_or};
