@@ -4,9 +4,9 @@ use crate::file::File;
 
 #[derive(Clone, Copy)]
 pub struct Kept {
-    registers: [File; 2],
+    pub registers: [File; 2],
     // The second is the register, and the first the other: so that an exchange moves no byte of theirs.
-    exchanged: bool,
+    pub exchanged: bool,
     pub summary: File,
     pub question: File,
     pub item: u16,
