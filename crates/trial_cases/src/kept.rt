@@ -5,7 +5,7 @@ use crate::file::File;
 #[derive(Clone, Copy)]
 pub struct Kept {
     pub registers: [File; 2],
-    // The second is the register, and the first the other: so that an exchange moves no byte of theirs.
+    // When set, the second is the register and the first the other, else the other way round: so that an exchange moves no byte of theirs.
     pub exchanged: bool,
     pub summary: File,
     pub question: File,
